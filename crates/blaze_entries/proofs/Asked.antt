@@ -1,5 +1,5 @@
 -- A map's `retain` calls a closure at one node after another: which nodes and which entries remain.
-use Rattle.blaze_entries.proofs.Words.{◌≡◌, ℤ, pos, ◌+ℤ◌, Bool, true, false, cond, List, [], ◌∷◌, ◌++◌, Option, Some, refl, ◌∙◌, sym, subst, ap, arith, ints, None, map, Bor, Mut, Called, FoldsTo, IsFiltered, items_where_true, RangeInclusive, CallableOnEachPair, RetainsPairs, SomeCallAtPair, IsShown, AnswersAt, SomeCallAt, IsCallableAtEach, TakesNode, AnswersAtNode, Entry, entry, StartsAscend, EndValue, shown_nodes, entries_of, node_before, held, AreFull, AreHeld}
+use Rattle.blaze_entries.proofs.Words.{◌≡◌, ℤ, pos, ◌+ℤ◌, Bool, true, false, cond, List, [], ◌∷◌, ◌++◌, Option, Some, refl, ◌∙◌, sym, subst, ap, arith, ints, None, map, Bor, Mut, Called, FoldsTo, IsFiltered, items_where_true, RangeInclusive, CallableOnEachPair, RetainsPairs, SomeCallAtPair, IsShown, AnswersAt, SomeCallAt, IsCallableAtEach, TakesNode, AnswersAtNode, Entry, entry, StartsAscend, EndValue, shown_nodes, entries_of, node_before, full_node, AreFull, AreHeld}
 use Rattle.blaze_entries.proofs.Ascending.{start_lower}
 use Rattle.blaze_entries.proofs.Held.{are_held}
 
@@ -26,12 +26,12 @@ module _ {V : Type 0} where
   AllFull [] = Unit {0}
   AllFull (p ∷ ps) = (v : V) × (p.value ≡ Some v) × AllFull ps
 
-  all_full : (ps : List (Entry (Option V))) (es : List (Entry V)) → ps ≡ map held es → AllFull ps
+  all_full : (ps : List (Entry (Option V))) (es : List (Entry V)) → ps ≡ map full_node es → AllFull ps
   all_full [] es q = tt
   all_full (p ∷ ps) [] q = cc
   all_full (p ∷ ps) (e ∷ es) q =
-      let first : p ≡ held e = cc in
-      let others : ps ≡ map held es = cc in
+      let first : p ≡ full_node e = cc in
+      let others : ps ≡ map full_node es = cc in
       (e.value, ap (λ (x : Entry (Option V)). x.value) first, all_full ps es others)
 
   before-append : (l h : ℤ) (o : Option V) (es fs : List (Entry V)) → node_before l h o (es ++ fs) ≡ node_before l h o es ++ fs
@@ -39,10 +39,10 @@ module _ {V : Type 0} where
   before-append l h (Some v) es fs = refl
 
   -- a full node before full ones
-  full_before : (l h : ℤ) (o : Option V) (v : V) (ps : List (Entry (Option V))) (es : List (Entry V)) → o ≡ Some v → ps ≡ map held es
-      → entry l h o ∷ ps ≡ map held (node_before l h o es)
+  full_before : (l h : ℤ) (o : Option V) (v : V) (ps : List (Entry (Option V))) (es : List (Entry V)) → o ≡ Some v → ps ≡ map full_node es
+      → entry l h o ∷ ps ≡ map full_node (node_before l h o es)
   full_before l h o v ps es q r =
-      subst (λ (o : Option V). entry l h o ∷ ps ≡ map held (node_before l h o es)) (sym q) (ap (λ t. entry l h (Some v) ∷ t) r)
+      subst (λ (o : Option V). entry l h o ∷ ps ≡ map full_node (node_before l h o es)) (sym q) (ap (λ t. entry l h (Some v) ∷ t) r)
 
   -- a part of the list, in its order
   starts_of_part : (b high : ℤ) (bs : List Bool) (es : List (Entry V)) → StartsAscend b high es → StartsAscend b high (items_where_true bs es)
@@ -120,7 +120,7 @@ module _ {F T V : Type 0} (rank : T → ℤ) (g : Mut F (Bor (RangeInclusive T) 
 
   -- the nodes are the nodes of entries
   abbrev AreShown : List (T × EndValue T (Option V)) → Type 0
-  AreShown ns = shown_nodes rank ns ≡ map held (entries_of rank ns)
+  AreShown ns = shown_nodes rank ns ≡ map full_node (entries_of rank ns)
 
   full_nodes : (f : F) (ns new : List (T × EndValue T (Option V))) → RetainsPairs (AnswersAtNode rank g) f ns new → AreShown new
   full_nodes f [] new r = subst AreShown (sym r) refl

@@ -1,5 +1,5 @@
 -- The entries of a cloned tree.
-use Rattle.blaze_entries.proofs.Words.{◌≡◌, ℤ, pos, ◌+ℤ◌, ◌≤ℤ◌, List, [], ◌∷◌, Option, Some, None, refl, ◌∙◌, sym, subst, ap, map, AllZip, AreCloned, Entry, entry, shown_nodes, shown_node, held, full, AreHeld, StartsAscend, EndValue}
+use Rattle.blaze_entries.proofs.Words.{◌≡◌, ℤ, pos, ◌+ℤ◌, ◌≤ℤ◌, List, [], ◌∷◌, Option, Some, None, refl, ◌∙◌, sym, subst, ap, map, AllZip, AreCloned, Entry, entry, shown_nodes, shown_node, full_node, full, AreHeld, StartsAscend, EndValue}
 use Rattle.blaze_entries.proofs.Held.{are_held, full-held}
 
 -- a clone of the value v
@@ -8,9 +8,9 @@ record IsClonedTo {V : Type 0} (is_clone : V → V → Type 0) (v : V) (o : Opti
   is : o ≡ Some copy
   like : is_clone v copy
 
-module _ {T V : Type 0} (rank : T → ℤ) (is_clone : V → V → Type 0) (optional : Option V → Option V → Type 0) (never : (v : V) → optional (Some v) None → ⊥) (some : (v w : V) → optional (Some v) (Some w) → is_clone v w) where
+module _ {T V : Type 0} (rank : T → ℤ) (is_clone : V → V → Type 0) (optional : Option V → Option V → Type 0) (never_equal : (v : V) → optional (Some v) None → ⊥) (some : (v w : V) → optional (Some v) (Some w) → is_clone v w) where
   cloned_to : (v : V) (o : Option V) → optional (Some v) o → IsClonedTo is_clone v o
-  cloned_to v None h = absurd (never v h)
+  cloned_to v None h = absurd (never_equal v h)
   cloned_to v (Some w) h = record { copy = w; is = refl; like = some v w h }
 
   -- the same start and end, and a clone of the value
@@ -19,18 +19,18 @@ module _ {T V : Type 0} (rank : T → ℤ) (is_clone : V → V → Type 0) (opti
 
   record Copies (es : List (Entry V)) (ms : List (T × EndValue T (Option V))) : Type 0 where
     copies : List (Entry V)
-    are : shown_nodes rank ms ≡ map held copies
+    are : shown_nodes rank ms ≡ map full_node copies
     cloned : AreCloned is_clone es copies
 
-  copies_of : (ns ms : List (T × EndValue T (Option V))) (es : List (Entry V)) → shown_nodes rank ns ≡ map held es → AllZip IsNodeCloned ns ms → Copies es ms
+  copies_of : (ns ms : List (T × EndValue T (Option V))) (es : List (Entry V)) → shown_nodes rank ns ≡ map full_node es → AllZip IsNodeCloned ns ms → Copies es ms
   copies_of [] [] [] q z = record { copies = []; are = refl; cloned = tt }
   copies_of [] [] (e ∷ es) q z = cc
   copies_of [] (m ∷ ms) es q z = elim z [ ]
   copies_of (n ∷ ns) [] es q z = elim z [ ]
   copies_of (n ∷ ns) (m ∷ ms) [] q z = cc
   copies_of (n ∷ ns) (m ∷ ms) (e ∷ es) q z =
-      let head : shown_node rank n ≡ held e = cc in
-      let tail : shown_nodes rank ns ≡ map held es = cc in
+      let head : shown_node rank n ≡ full_node e = cc in
+      let tail : shown_nodes rank ns ≡ map full_node es = cc in
       let value = cloned_to e.value m.1.value (subst (λ o. optional o m.1.value) (ap (λ x. x.value) head) z.0.1.1) in
       let rest = copies_of ns ms es tail z.1 in
       let lo : rank m.0 ≡ e.lo = ap rank z.0.0 ∙ ap (λ x. x.lo) head in

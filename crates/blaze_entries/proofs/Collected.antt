@@ -1,5 +1,5 @@
 -- Nodes collected from a list whose starts ascend are the nodes of that list.
-use Rattle.blaze_entries.proofs.Words.{◌≡◌, ℤ, pos, ◌+ℤ◌, ◌≤ℤ◌, ◌<ℤ◌, Bool, true, false, cond, List, [], ◌∷◌, map, Option, Some, None, refl, ◌∙◌, sym, subst, ap, arith, IsSome, is_at, IsFromIterResult, BTreeMap, IsTotalOrder, int_cmp_is, AllByRecursion, lookup, keys_of, option_map, int_cmp, eq_by_cmp, on, Less, Equal, Greater, eq_by_cmp_equiv, int_cmp_total, ints, IsDistinct-from_sorted, update_all_none, Entry, shown_entry, shown_nodes, shown_node_at, held, node_of, StartsAscend, start_at, EndValue}
+use Rattle.blaze_entries.proofs.Words.{◌≡◌, ℤ, pos, ◌+ℤ◌, ◌≤ℤ◌, ◌<ℤ◌, Bool, true, false, cond, List, [], ◌∷◌, map, Option, Some, None, refl, ◌∙◌, sym, subst, ap, arith, IsSome, is_at, IsFromIterResult, BTreeMap, IsTotalOrder, int_cmp_is, AllByRecursion, lookup, keys_of, option_map, int_cmp, eq_by_cmp, on, Less, Equal, Greater, eq_by_cmp_equiv, int_cmp_total, ints, IsDistinct-from_sorted, update_all_none, Entry, shown_entry, shown_nodes, shown_node_at, full_node, node_of, StartsAscend, start_at, EndValue}
 use Rattle.std.specs.List.Sorted.{IsStrictlySortedBy}
 use Rattle.blaze_entries.proofs.Ascending.{by_order, start_none}
 use Rattle.blaze_entries.proofs.NodeLists.{as_entries_lookup}
@@ -122,6 +122,6 @@ module _ {T V : Type 0} (rank : T → ℤ) where
         (sym (as_entries_lookup rank q n.entries) ∙ ap (option_map (shown_node_at rank q)) (found q) ∙ as_entries_lookup rank q xs))
 
 -- the nodes of entries
-pub as_entries_of_nodes : {T V : Type 0} (rank : T → ℤ) (xs : List (T × T × V)) → shown_nodes rank (map node_of xs) ≡ map held (map (shown_entry rank (λ v. v)) xs)
+pub as_entries_of_nodes : {T V : Type 0} (rank : T → ℤ) (xs : List (T × T × V)) → shown_nodes rank (map node_of xs) ≡ map full_node (map (shown_entry rank (λ v. v)) xs)
 as_entries_of_nodes rank [] = refl
-as_entries_of_nodes rank (x ∷ xs) = ap (λ l. held (shown_entry rank (λ v. v) x) ∷ l) (as_entries_of_nodes rank xs)
+as_entries_of_nodes rank (x ∷ xs) = ap (λ l. full_node (shown_entry rank (λ v. v) x) ∷ l) (as_entries_of_nodes rank xs)

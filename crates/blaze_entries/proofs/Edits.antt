@@ -1,5 +1,5 @@
 -- The results of std's calls on full nodes, as results on the entries.
-use Rattle.blaze_entries.proofs.Words.{◌≡◌, ℤ, pos, ◌+ℤ◌, List, [], ◌∷◌, ◌++◌, Option, Some, None, refl, ◌∙◌, sym, ap, map, MatchOption, IfSome, option_map, last_or, int_cmp, on, Less, Equal, Greater, remove_entry, insert_entry, is_at, entries_between, entries_below, entries_from, Included, Excluded, Unbounded, Bor, changed, Entry, entry, held, shown_nodes, shown_node_at, shown_lent_node, entries_of, AreHeld, below, from, up_to, with_entry, without, with_end, with_end_value, with_last_end, EndValue}
+use Rattle.blaze_entries.proofs.Words.{◌≡◌, ℤ, pos, ◌+ℤ◌, List, [], ◌∷◌, ◌++◌, Option, Some, None, refl, ◌∙◌, sym, ap, map, MatchOption, IfSome, option_map, last_or, int_cmp, on, Less, Equal, Greater, remove_entry, insert_entry, is_at, entries_between, entries_below, entries_from, Included, Excluded, Unbounded, Bor, changed, Entry, entry, full_node, shown_nodes, shown_node_at, shown_lent_node, entries_of, AreHeld, below, from, up_to, with_entry, without, with_end, with_end_value, with_last_end, EndValue}
 use Rattle.blaze_entries.proofs.Ascending.{by_order}
 use Rattle.blaze_entries.proofs.Held.{edited_nodes, nodes_ascend, with_entry-held, without-held, with_end-held, with_end_value-held, with_last_end-held, below-held, from-held, up_to-held}
 use Rattle.blaze_entries.proofs.NodeLists.{as_entries_insert, as_entries_remove, as_entries_end, as_entries_set, as_entries_below, as_entries_from, as_entries_between, as_entries_at_or_above, as_entries_from_up_to, as_entries_all, last_of_append}
@@ -7,7 +7,7 @@ use Rattle.blaze_entries.proofs.NodeLists.{as_entries_insert, as_entries_remove,
 module _ {T V : Type 0} (rank : T → ℤ) (low high : ℤ) (m n : List (T × EndValue T (Option V))) (h : AreHeld low high (shown_nodes rank m)) where
   -- the nodes are the nodes of the entries
   abbrev AreThose : List (Entry V) → Type 0
-  AreThose es = shown_nodes rank n ≡ map held es
+  AreThose es = shown_nodes rank n ≡ map full_node es
 
   pub inserted : (k z : T) (v : V) → n ≡ insert_entry (on rank int_cmp) m k (record { end = z; value = Some v }) → AreThose (with_entry (entry (rank k) (rank z) v) (entries_of rank m))
   inserted k z v q =

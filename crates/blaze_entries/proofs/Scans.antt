@@ -1,5 +1,5 @@
 -- One lookup of a walk: its result, and the walk after it.
-use Rattle.blaze_entries.proofs.Words.{◌≡◌, ℕ, ◌+◌, ◌<◌, ◌≤◌, length, ℤ, Bool, List, [], ◌∷◌, ◌++◌, Option, Some, None, refl, ◌∙◌, sym, ap, arith, length-append, MatchOption, int_lt, int_le, not, filter, length-map, length-filter_both, Entry, entry, IsFoundAt, held, full, shown_nodes, shown_node, AreFull, below, from, RangeEntry, EndValue}
+use Rattle.blaze_entries.proofs.Words.{◌≡◌, ℕ, ◌+◌, ◌<◌, ◌≤◌, length, ℤ, Bool, List, [], ◌∷◌, ◌++◌, Option, Some, None, refl, ◌∙◌, sym, ap, arith, length-append, MatchOption, int_lt, int_le, not, filter, length-map, length-filter_both, Entry, entry, IsFoundAt, full_node, full, shown_nodes, shown_node, AreFull, below, from, RangeEntry, EndValue}
 
 -- the result of the lookup, with the value, is the entry
 pub found_entry : {T V : Type 0} {rank : T → ℤ} {test : V → Bool} {f : RangeEntry T Bool} {w : V} {e : Entry V} → IsFoundAt rank test f w e → entry (rank f.start) (rank f.end) w ≡ e

@@ -1,5 +1,5 @@
 -- One call of `next` or `next_back` of an iterator over full nodes.
-use Rattle.blaze_entries.proofs.Words.{◌≡◌, ◌+◌, ◌<◌, length, ℤ, pos, ◌+ℤ◌, List, [], ◌∷◌, ◌++◌, Option, Some, None, refl, ◌∙◌, sym, subst, ap, arith, length-append, map, IsSome, IfSome, IfNone, MatchOption, ◌↔◌, MakesProgress, item_count, TakesFirst, TakesLast, option_map, ints, Entry, held, full, shown_node, shown_nodes, entries_of, AreFull, AreHeld, StartsAscend, EndValue}
+use Rattle.blaze_entries.proofs.Words.{◌≡◌, ◌+◌, ◌<◌, length, ℤ, pos, ◌+ℤ◌, List, [], ◌∷◌, ◌++◌, Option, Some, None, refl, ◌∙◌, sym, subst, ap, arith, length-append, map, IsSome, IfSome, IfNone, MatchOption, ◌↔◌, MakesProgress, item_count, TakesFirst, TakesLast, option_map, ints, Entry, full_node, full, shown_node, shown_nodes, entries_of, AreFull, AreHeld, StartsAscend, EndValue}
 use Rattle.blaze_entries.proofs.Ascending.{start_front, start_lower}
 use Rattle.blaze_entries.proofs.Held.{full-held}
 use Rattle.blaze_entries.proofs.Lent.{no_value}
@@ -21,25 +21,25 @@ module _ {A V : Type 0} (shows : A → Entry (Option V)) where
   -- A node was yielded from one end of full nodes. `join` puts its entry back among the others.
   pub record Taken (join : List (Entry V) → Entry V → List (Entry V)) (es : List (Entry V)) (r : Option A) (qs : List (Entry (Option V))) : Type 0 where
     pub entry : Option (Entry V)
-    pub is : option_map shows r ≡ option_map held entry
+    pub is : option_map shows r ≡ option_map full_node entry
     pub others : AreFull qs
     pub yields : MatchOption entry ((es ≡ []) × (full qs ≡ [])) (λ e. es ≡ join (full qs) e)
 
   first_taken : (ps : List (Entry (Option V))) (r : Option A) (qs : List (Entry (Option V))) → AreFull ps → TakesFirst shows ps r qs → Taken (λ fs e. e ∷ fs) (full ps) r qs
   first_taken ps r qs h t = by_list (full ps) ps r qs h.held t
     where
-      by_list : (es : List (Entry V)) (ps : List (Entry (Option V))) (r : Option A) (qs : List (Entry (Option V))) → ps ≡ map held es → TakesFirst shows ps r qs → Taken (λ fs e. e ∷ fs) es r qs
+      by_list : (es : List (Entry V)) (ps : List (Entry (Option V))) (r : Option A) (qs : List (Entry (Option V))) → ps ≡ map full_node es → TakesFirst shows ps r qs → Taken (λ fs e. e ∷ fs) es r qs
       by_list [] ps None qs q t = record { entry = None; is = refl; others = subst AreFull (sym t.1) (record { held = refl }); yields = (refl, ap full t.1) }
-      by_list (e ∷ es) ps None qs q t = let no : [] ≡ held e ∷ map held es = sym t.0 ∙ q in cc
+      by_list (e ∷ es) ps None qs q t = let no : [] ≡ full_node e ∷ map full_node es = sym t.0 ∙ q in cc
       by_list [] ps (Some x) qs q t = let no : shows x ∷ qs ≡ [] = sym t ∙ q in cc
       by_list (e ∷ es) ps (Some x) qs q t =
-          let both : shows x ∷ qs ≡ held e ∷ map held es = sym t ∙ q in
-          let rest : qs ≡ map held es = cc in
+          let both : shows x ∷ qs ≡ full_node e ∷ map full_node es = sym t ∙ q in
+          let rest : qs ≡ map full_node es = cc in
           let entries : full qs ≡ es = ap full rest ∙ full-held es in
           record {
             entry = Some e;
             is = cc;
-            others = record { held = rest ∙ ap (map held) (sym entries) };
+            others = record { held = rest ∙ ap (map full_node) (sym entries) };
             yields = ap (λ l. e ∷ l) (sym entries);
           }
 
@@ -47,19 +47,19 @@ module _ {A V : Type 0} (shows : A → Entry (Option V)) where
     front : List (Entry V)
     last : Entry V
     whole : es ≡ front ++ last ∷ []
-    is : x ≡ held last
-    others : qs ≡ map held front
+    is : x ≡ full_node last
+    others : qs ≡ map full_node front
 
-  split_last : (es : List (Entry V)) (x : Entry (Option V)) (qs : List (Entry (Option V))) → qs ++ x ∷ [] ≡ map held es → SplitLast es x qs
+  split_last : (es : List (Entry V)) (x : Entry (Option V)) (qs : List (Entry (Option V))) → qs ++ x ∷ [] ≡ map full_node es → SplitLast es x qs
   split_last [] x [] q = cc
   split_last [] x (p ∷ qs) q = cc
   split_last (e ∷ []) x [] q = record { front = []; last = e; whole = refl; is = cc; others = refl }
   split_last (e ∷ f ∷ es) x [] q = cc
   split_last (e ∷ es) x (p ∷ qs) q =
-      let rest : qs ++ x ∷ [] ≡ map held es = cc in
-      let first : p ≡ held e = cc in
+      let rest : qs ++ x ∷ [] ≡ map full_node es = cc in
+      let first : p ≡ full_node e = cc in
       let s = split_last es x qs rest in
-      record { front = e ∷ s.front; last = s.last; whole = ap (λ l. e ∷ l) s.whole; is = s.is; others = ap (λ y. y ∷ qs) first ∙ ap (λ l. held e ∷ l) s.others }
+      record { front = e ∷ s.front; last = s.last; whole = ap (λ l. e ∷ l) s.whole; is = s.is; others = ap (λ y. y ∷ qs) first ∙ ap (λ l. full_node e ∷ l) s.others }
 
   last_taken : (ps : List (Entry (Option V))) (r : Option A) (qs : List (Entry (Option V))) → AreFull ps → TakesLast shows ps r qs → Taken (λ fs e. fs ++ e ∷ []) (full ps) r qs
   last_taken ps None qs h t = record { entry = None; is = refl; others = subst AreFull (sym t.1) (record { held = refl }); yields = (ap full t.0, ap full t.1) }
@@ -69,7 +69,7 @@ module _ {A V : Type 0} (shows : A → Entry (Option V)) where
       record {
         entry = Some s.last;
         is = ap Some s.is;
-        others = record { held = s.others ∙ ap (map held) (sym entries) };
+        others = record { held = s.others ∙ ap (map full_node) (sym entries) };
         yields = s.whole ∙ ap (λ l. l ++ s.last ∷ []) (sym entries);
       }
 
@@ -93,13 +93,13 @@ module _ {A V : Type 0} {shows : A → Entry (Option V)} {join : List (Entry V) 
   pub taken_is_full : IfSome r (λ a. IsSome (shows a).value)
   taken_is_full = by_cases r t.entry t.is
     where
-      by_cases : (r : Option A) (o : Option (Entry V)) → option_map shows r ≡ option_map held o → IfSome r (λ a. IsSome (shows a).value)
+      by_cases : (r : Option A) (o : Option (Entry V)) → option_map shows r ≡ option_map full_node o → IfSome r (λ a. IsSome (shows a).value)
       by_cases None o q = tt
       by_cases (Some a) None q = cc
-      by_cases (Some a) (Some e) q = let s : shows a ≡ held e = cc in subst (λ (x : Entry (Option V)). IsSome x.value) (sym s) refl
+      by_cases (Some a) (Some e) q = let s : shows a ≡ full_node e = cc in subst (λ (x : Entry (Option V)). IsSome x.value) (sym s) refl
 
   -- a call that returns the entry of the yielded node yields the entry
-  pub answers_taken : {B : Type 0} (view : B → Entry V) (answer : Option B) {fs : List (Entry V)} → ((o : Option (Entry V)) → option_map shows r ≡ option_map held o → option_map view answer ≡ o) → es ≡ fs
+  pub answers_taken : {B : Type 0} (view : B → Entry V) (answer : Option B) {fs : List (Entry V)} → ((o : Option (Entry V)) → option_map shows r ≡ option_map full_node o → option_map view answer ≡ o) → es ≡ fs
       → MatchOption answer ((fs ≡ []) × (full qs ≡ [])) (λ x. fs ≡ join (full qs) (view x))
   answers_taken view answer {fs} f q =
       subst (λ l. MatchOption answer ((l ≡ []) × (full qs ≡ [])) (λ x. l ≡ join (full qs) (view x))) q (by_view view answer t.entry _ _ (f t.entry t.is) t.yields)

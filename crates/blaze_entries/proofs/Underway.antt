@@ -1,11 +1,11 @@
 -- A walk down the entries to a range, before its end: its results from the entries that it has visited.
-use Rattle.blaze_entries.proofs.Words.{◌≡◌, ℕ, ◌+◌, ◌≤◌, length, ℤ, pos, ◌+ℤ◌, ◌-ℤ◌, ◌≤ℤ◌, ◌<ℤ◌, Bool, true, false, cond, List, [], ◌∷◌, ◌++◌, Option, Some, None, refl, ◌∙◌, sym, subst, ap, arith, append_assoc, length-append, int_lt, int_le, IfSome, IsSomeAnd, int_max, int_min, last_or, option_map, ints, by_lt_z, filter-append, le_true, le_false, lt_holds, lt_fails, Entry, at, found_in, shown_found, shared, overlap, covered, StartsAscend, below, from, last_below, RangesAscend, Seen, IsSeenIn, unseen, seen, seen_value, IsClonedIf, RangeEntry}
+use Rattle.blaze_entries.proofs.Words.{◌≡◌, ℕ, ◌+◌, ◌≤◌, length, ℤ, pos, ◌+ℤ◌, ◌-ℤ◌, ◌≤ℤ◌, ◌<ℤ◌, Bool, true, false, cond, List, [], ◌∷◌, ◌++◌, Option, Some, None, refl, ◌∙◌, sym, subst, ap, arith, append_assoc, length-append, int_lt, int_le, IfSome, IsSomeAnd, int_max, int_min, last_or, option_map, ints, by_lt_z, filter-append, le_true, le_false, lt_holds, lt_fails, Entry, at, found_in, shown_found, shared_count, overlap, covered_keys, StartsAscend, below, from, last_below, RangesAscend, Seen, IsSeenIn, unseen, seen, seen_value, IsClonedIf, RangeEntry}
 use Rattle.blaze_entries.proofs.Ascending.{start_lower}
 use Rattle.blaze_entries.proofs.Halves.{StartsBelow, below_none, below_takes, from_takes, starts_from, starts_below, halves}
 use Rattle.blaze_entries.proofs.Scans.{length-below, length-from}
 use Rattle.blaze_entries.proofs.Seen.{starts_of, none_seen, next_seen, past_seen}
 
-some_shared : (l h a b : ℤ) → pos 0 ≤ℤ shared l h a b
+some_shared : (l h a b : ℤ) → pos 0 ≤ℤ shared_count l h a b
 some_shared l h a b = up_to_keys (int_max l a) (int_min h b)
   where
     up_to_keys : (a b : ℤ) → pos 0 ≤ℤ cond (int_le a b) ((b -ℤ a) +ℤ pos 1) (pos 0)
@@ -22,11 +22,11 @@ module _ {V : Type 0} where
   below_part k (x ∷ xs) ys s = let i = below_part k xs ys s.1 in ((s.0, i.0), i.1)
 
   module _ (l h : ℤ) where
-    pub covered-append : (xs ys : List (Entry V)) → covered l h (xs ++ ys) ≡ covered l h xs +ℤ covered l h ys
+    pub covered-append : (xs ys : List (Entry V)) → covered_keys l h (xs ++ ys) ≡ covered_keys l h xs +ℤ covered_keys l h ys
     covered-append [] ys = omega (arith, ints)
     covered-append (x ∷ xs) ys = omega (arith, ints, covered-append xs ys)
 
-    pub some_covered : (es : List (Entry V)) → pos 0 ≤ℤ covered l h es
+    pub some_covered : (es : List (Entry V)) → pos 0 ≤ℤ covered_keys l h es
     some_covered [] = omega (arith, ints)
     some_covered (e ∷ es) = omega (arith, ints, some_shared l h e.lo e.hi, some_covered es)
 
@@ -37,7 +37,7 @@ module _ {V : Type 0} where
     overlap_over e u = grind (arith, ints)
 
     -- entries that start above the range share no key with it
-    covered_over : (b high : ℤ) (es : List (Entry V)) → h <ℤ b → StartsAscend b high es → covered l h es ≡ pos 0
+    covered_over : (b high : ℤ) (es : List (Entry V)) → h <ℤ b → StartsAscend b high es → covered_keys l h es ≡ pos 0
     covered_over b high [] u s = refl
     covered_over b high (e ∷ es) u s = omega (arith, ints, overlap_over e (omega (arith, ints, s.0)), covered_over (e.lo +ℤ pos 1) high es (omega (arith, ints, s.0)) s.2)
 
@@ -46,7 +46,7 @@ module _ {V : Type 0} where
     at_over b high (e ∷ es) u s = rw (le_false e.lo l (omega (arith, ints, s.0))) (at_over (e.lo +ℤ pos 1) high es (omega (arith, ints, s.0)) s.2)
 
     -- entries before an entry that starts below the range start below it and share no key with it
-    past : (b high : ℤ) (xs : List (Entry V)) (e : Entry V) (ys : List (Entry V)) → RangesAscend b high (xs ++ e ∷ ys) → e.lo <ℤ l → StartsBelow l xs × (covered l h xs ≡ pos 0) × (at (xs ++ e ∷ ys) l ≡ at (e ∷ ys) l)
+    past : (b high : ℤ) (xs : List (Entry V)) (e : Entry V) (ys : List (Entry V)) → RangesAscend b high (xs ++ e ∷ ys) → e.lo <ℤ l → StartsBelow l xs × (covered_keys l h xs ≡ pos 0) × (at (xs ++ e ∷ ys) l ≡ at (e ∷ ys) l)
     past b high [] e ys r u = (tt, refl, refl)
     past b high (x ∷ xs) e ys r u =
         let i = past (x.hi +ℤ pos 1) high xs e ys r.3 u in
@@ -59,7 +59,7 @@ module _ {V : Type 0} (test : V → Bool) (l h : ℤ) (len : ℤ) (n : ℕ) wher
   -- first n.
   pub record IsFound (es : List (Entry V)) (s : Seen) (left : ℤ) (looks : ℕ) : Type 0 where
     pub seen : IsSeenIn test l h es s
-    pub kept : left +ℤ covered l h es ≡ len
+    pub kept : left +ℤ covered_keys l h es ≡ len
     pub few : looks ≤ n + length (from l (below (h +ℤ pos 2) es))
     pub risen : n ≤ looks
 
@@ -113,19 +113,19 @@ module _ {V : Type 0} {test : V → Bool} {l h high : ℤ} {es : List (Entry V)}
     abbrev start : f.0 ≡ e.lo
     start = ap (λ (t : ℤ × ℤ × Bool). t.0) is
 
-    abbrev keys : shared l h f.0 f.1 ≡ overlap l h e
-    keys = ap (λ (t : ℤ × ℤ × Bool). shared l h t.0 t.1) is
+    abbrev keys : shared_count l h f.0 f.1 ≡ overlap l h e
+    keys = ap (λ (t : ℤ × ℤ × Bool). shared_count l h t.0 t.1) is
 
     -- no more entries are removed than exist
-    pub fits : s.gone + 1 ≤ length es
+    pub fits : s.removed_count + 1 ≤ length es
     fits =
-        let gone = i.found.seen.gone in
+        let removed_count = i.found.seen.removed_count in
         let all = ap length whole ∙ length-append xs (e ∷ tail) in
-        omega (arith, gone, all, length-from (l +ℤ pos 1) (below (s.end +ℤ pos 1) tail), length-below (s.end +ℤ pos 1) tail)
+        omega (arith, removed_count, all, length-from (l +ℤ pos 1) (below (s.end +ℤ pos 1) tail), length-below (s.end +ℤ pos 1) tail)
 
-    pub has_room : covered l h es ≤ℤ len → shared l h f.0 f.1 ≤ℤ left
+    pub has_room : covered_keys l h es ≤ℤ len → shared_count l h f.0 f.1 ≤ℤ left
     has_room room =
-        let all = ap (covered l h) whole ∙ covered-append l h xs (e ∷ tail) in
+        let all = ap (covered_keys l h) whole ∙ covered-append l h xs (e ∷ tail) in
         let kept = i.found.kept in
         omega (arith, ints, keys, room, all, kept, some_covered l h xs)
 
@@ -133,7 +133,7 @@ module _ {V : Type 0} {test : V → Bool} {l h high : ℤ} {es : List (Entry V)}
       seen_next : IsSeenIn test l h (e ∷ tail) q
       seen_next = subst (IsSeenIn test l h (e ∷ tail)) (sym (saw ∙ ap (seen l h s) is)) (next_seen test l h high w ranges.0 e tail ranges.2 near_parts.1.0 i.starts s i.found.seen)
 
-      module _ (rest : ℤ) (taken : rest +ℤ shared l h f.0 f.1 ≡ left) where
+      module _ (rest : ℤ) (taken : rest +ℤ shared_count l h f.0 f.1 ≡ left) where
         -- it starts at l or above, and the walk continues
         pub goes_on : {more : ℕ} → more ≡ looks + 1 → int_lt f.0 l ≡ false → IsWalkUnderway test l h len n high es xs (e ∷ tail) q rest more
         goes_on one u =
@@ -160,7 +160,7 @@ module _ {V : Type 0} {test : V → Bool} {l h high : ℤ} {es : List (Entry V)}
             let here = start in
             let under : e.lo <ℤ l = omega (arith, ints) in
             let p = past l h low high xs e tail (subst (RangesAscend low high) whole r) under in
-            let all = ap (covered l h) whole ∙ covered-append l h xs (e ∷ tail) in
+            let all = ap (covered_keys l h) whole ∙ covered-append l h xs (e ∷ tail) in
             let kept = i.found.kept in
             let more = ap (λ ys. length (from l (below (h +ℤ pos 2) ys))) whole in
             record {
@@ -204,11 +204,11 @@ above_at {V} l h w b high (x ∷ xs) r = by_lt_z x.lo l
 -- a clone made from the result of a lookup is a clone of the entry's value
 pub cloned_above : {T V : Type 0} (rank : T → ℤ) (is_clone : V → V → Type 0) (test : V → Bool) (h : ℤ) (left : Option (RangeEntry T Bool)) (o : Option (Entry V)) (v : ℤ → Option V) (r : Option V) → option_map (shown_found rank) left ≡ option_map (found_in test) o
     → IfSome o (λ e. h <ℤ e.hi → v e.lo ≡ Some e.value) → IfSome left (λ f. h <ℤ rank f.end → f.value ≡ false → IsClonedIf is_clone true (v (rank f.start)) r) → IfSome o (λ e. h <ℤ e.hi → test e.value ≡ false → IsSomeAnd r (is_clone e.value))
-cloned_above rank is_clone test h left None v r q held i = tt
-cloned_above rank is_clone test h None (Some e) v r q held i = cc
-cloned_above rank is_clone test h (Some f) (Some e) v r q held i = λ u n.
+cloned_above rank is_clone test h left None v r q full_node i = tt
+cloned_above rank is_clone test h None (Some e) v r q full_node i = cc
+cloned_above rank is_clone test h (Some f) (Some e) v r q full_node i = λ u n.
     let s : shown_found rank f ≡ found_in test e = cc in
-    subst (λ x. IsClonedIf is_clone true x r) (ap (λ (t : ℤ × ℤ × Bool). v t.0) s ∙ held u)
+    subst (λ x. IsClonedIf is_clone true x r) (ap (λ (t : ℤ × ℤ × Bool). v t.0) s ∙ full_node u)
     (i (subst (λ z. h <ℤ z) (sym (ap (λ (t : ℤ × ℤ × Bool). t.1) s)) u) (ap (λ (t : ℤ × ℤ × Bool). t.2) s ∙ n))
 
 -- if a clone is needed, the last entry that starts below the range extends above it with an unequal value

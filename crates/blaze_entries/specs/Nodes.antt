@@ -27,8 +27,8 @@ abbrev pub shown_node_at : {T V : Type 0} → (T → ℤ) → T → EndValue T V
 shown_node_at rank k node = shown_node rank (k, node)
 
 -- an entry, as a full node
-abbrev pub held : {V : Type 0} → Entry V → Entry (Option V)
-held e = entry e.lo e.hi (Some e.value)
+abbrev pub full_node : {V : Type 0} → Entry V → Entry (Option V)
+full_node e = entry e.lo e.hi (Some e.value)
 
 -- a node before entries: it adds an entry if it is full
 abbrev pub node_before : {V : Type 0} → ℤ → ℤ → Option V → List (Entry V) → List (Entry V)
@@ -46,7 +46,7 @@ entries_of rank nodes = full (shown_nodes rank nodes)
 
 -- each node is full
 pub record AreFull {V : Type 0} (ps : List (Entry (Option V))) : Type 0 where
-  pub held : ps ≡ map held (full ps)
+  pub held : ps ≡ map full_node (full ps)
 
 -- each node is full, and the starts ascend, from low to high
 pub record AreHeld {V : Type 0} (low high : ℤ) (ps : List (Entry (Option V))) : Type 0 where

@@ -29,13 +29,13 @@ abbrev pub last_below : {V : Type 0} → ℤ → List (Entry V) → Option (Entr
 last_below k es = last_or None (below k es)
 
 -- the entry, if it ends at k or above
-abbrev pub reaching : {V : Type 0} → ℤ → Option (Entry V) → Option (Entry V)
-reaching k None = None
-reaching k (Some e) = cond (int_lt e.hi k) None (Some e)
+abbrev pub entry_reaching : {V : Type 0} → ℤ → Option (Entry V) → Option (Entry V)
+entry_reaching k None = None
+entry_reaching k (Some e) = cond (int_lt e.hi k) None (Some e)
 
 -- the entry that contains the key k, if each entry ends below the start of the next
 abbrev pub holder_of : {V : Type 0} → ℤ → List (Entry V) → Option (Entry V)
-holder_of k es = reaching k (last_below (k +ℤ pos 1) es)
+holder_of k es = entry_reaching k (last_below (k +ℤ pos 1) es)
 
 -- the first entry that starts at k or above
 abbrev pub first_from : {V : Type 0} → ℤ → List (Entry V) → Option (Entry V)

@@ -3,7 +3,7 @@ ghost use Rattle.std.specs.Prelude.{◌≡◌, ◌<ℤ◌, IfOk, OnErr, IsSome, 
 ghost use Rattle.blaze_entries.specs.Cloned.{IsRangeCloned};
 ghost use Rattle.blaze_entries.specs.Entries.{shown_lent};
 ghost use Rattle.blaze_entries.specs.Found.{found_in, shown_found, range_in, shown_ends};
-ghost use Rattle.blaze_entries.specs.Starts.{reaching};
+ghost use Rattle.blaze_entries.specs.Starts.{entry_reaching};
 ghost use Rattle.std.specs.Option.{option_map};
 
 use crate::range_entry::RangeEntry;
@@ -41,8 +41,11 @@ pub fn compared<T: Integer, V: Eq>(
 }
 
 /// Returns the entry if it ends at `key` or above.
-pub fn reaching<'a, T: Integer, V>(found: Option<(T, T, &'a V)>, key: T) -> Option<(T, T, &'a V)>
-    ensures { shown_lent T.rank result ≡ reaching (T.rank key) (shown_lent T.rank found.entry) }
+pub fn entry_reaching<'a, T: Integer, V>(
+    found: Option<(T, T, &'a V)>,
+    key: T,
+) -> Option<(T, T, &'a V)>
+    ensures { shown_lent T.rank result ≡ entry_reaching (T.rank key) (shown_lent T.rank found.entry) }
 {
     let (start, end, value) = found?;
     if is_below(end, key) {

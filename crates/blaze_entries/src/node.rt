@@ -2,7 +2,7 @@
 ghost use Rattle.std.specs.Prelude.{◌≡◌, Option, Some, IfSome, IsSome};
 ghost use Rattle.std.specs.Option.{option_map};
 ghost use Rattle.blaze_entries.specs.Entries.{Entry, shown_entry};
-ghost use Rattle.blaze_entries.specs.Nodes.{held, shown_lent_node, shown_node};
+ghost use Rattle.blaze_entries.specs.Nodes.{full_node, shown_lent_node, shown_node};
 
 use crate::start::Start;
 use blaze_int::Integer;
@@ -36,7 +36,7 @@ pub fn shown<'a, T: Integer, V>(
 ) -> Option<(T, T, &'a V)>
     requires { IfSome node (λ p. IsSome p.1.now.value) }
     ensures { (e : Option (Entry V)) → option_map (shown_lent_node T.rank) node.entry
-        ≡ option_map held e → option_map (shown_entry T.rank (λ v. v.now)) result ≡ e }
+        ≡ option_map full_node e → option_map (shown_entry T.rank (λ v. v.now)) result ≡ e }
 {
     let (start, node) = node?;
     match &node.value {
@@ -48,7 +48,7 @@ pub fn shown<'a, T: Integer, V>(
 /// Returns the entry of an owned node as (first key, last key, value).
 pub fn given<T: Integer, V>(node: Option<(Start<T>, EndValue<T, Option<V>>)>) -> Option<(T, T, V)>
     requires { IfSome node (λ p. IsSome p.1.value) }
-    ensures { (e : Option (Entry V)) → option_map (shown_node T.rank) node ≡ option_map held e
+    ensures { (e : Option (Entry V)) → option_map (shown_node T.rank) node ≡ option_map full_node e
         → option_map (shown_entry T.rank (λ v. v)) result ≡ e }
 {
     let (start, node) = node?;

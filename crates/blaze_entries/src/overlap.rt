@@ -1,6 +1,6 @@
 //! The number of keys that an entry shares with a range.
 ghost use Rattle.std.specs.Prelude.{◌≡◌, pos, ◌+ℤ◌, ◌≤ℤ◌};
-ghost use Rattle.blaze_entries.specs.Overlap.{shared};
+ghost use Rattle.blaze_entries.specs.Overlap.{shared_count};
 
 use crate::range_entry::RangeEntry;
 use blaze_int::compare::{greater, is_at_most, length, lesser};
@@ -13,10 +13,10 @@ pub fn length_outside<T: Integer>(
     lo: T,
     hi: T,
 ) -> T::SafeLen
-    requires { shared (T.rank lo) (T.rank hi) (T.rank found.start) (T.rank found.end)
+    requires { shared_count (T.rank lo) (T.rank hi) (T.rank found.start) (T.rank found.end)
         ≤ℤ pos (T.SafeLen.number len) }
     ensures { pos (T.SafeLen.number result)
-        +ℤ shared (T.rank lo) (T.rank hi) (T.rank found.start) (T.rank found.end)
+        +ℤ shared_count (T.rank lo) (T.rank hi) (T.rank found.start) (T.rank found.end)
         ≡ pos (T.SafeLen.number len) }
 {
     let first = greater(found.start, lo);

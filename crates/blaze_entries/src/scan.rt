@@ -4,7 +4,7 @@ ghost use Rattle.std.specs.Prelude.{length, MatchOption, OnSome, IfOk, OnErr, Is
 ghost use Rattle.std.specs.Option.{option_copied};
 ghost use Rattle.blaze_entries.specs.Entries.{Entry, entry, at};
 ghost use Rattle.blaze_entries.specs.Found.{shown_found, is_sought, IsFoundAt};
-ghost use Rattle.blaze_entries.specs.Overlap.{covered};
+ghost use Rattle.blaze_entries.specs.Overlap.{covered_keys};
 ghost use Rattle.blaze_entries.specs.Starts.{below, from};
 ghost use Rattle.blaze_entries.specs.Walked.{RangesAscend, shown_plan, IsSeenIn, unseen, seen_end};
 ghost use Rattle.blaze_entries.specs.Walked.{seen_start, seen, seen_value, IsClonedIf};
@@ -24,13 +24,13 @@ pub struct Plan<T> {
     /// The last key of the range after it is joined with the entry above it.
     pub end: T,
     /// The first and last key of the entry that keeps its keys above the range.
-    pub rest: Option<RangeEntry<T, ()>>,
+    pub tail: Option<RangeEntry<T, ()>>,
     /// The entry that starts at the range's first key.
     pub first: Option<RangeEntry<T, bool>>,
     /// The entry with the greatest start below the range.
-    pub left: Option<RangeEntry<T, bool>>,
+    pub predecessor: Option<RangeEntry<T, bool>>,
     /// The number of entries that start above the range's first key and end within the joined range.
-    pub gone: usize,
+    pub removed_count: usize,
 }
 
 impl<T: Integer> Plan<T> {
@@ -40,10 +40,10 @@ impl<T: Integer> Plan<T> {
     {
         Plan {
             end: hi,
-            rest: None,
+            tail: None,
             first: None,
-            left: None,
-            gone: 0,
+            predecessor: None,
+            removed_count: 0,
         }
     }
 
@@ -51,13 +51,13 @@ impl<T: Integer> Plan<T> {
     fn see_end(&mut self, hi: T, found: RangeEntry<T, bool>)
         ensures seen { shown_plan T.rank self.new
             ≡ seen_end (T.rank hi) (shown_plan T.rank self.old) (shown_found T.rank found) }
-        ensures gone { self.new.gone ≡ self.old.gone }
+        ensures removed_count { self.new.removed_count ≡ self.old.removed_count }
     {
         if is_below(hi, found.end) {
             if found.value {
                 self.end = found.end;
             } else if is_at_most(found.start, hi) {
-                self.rest = Some(RangeEntry {
+                self.tail = Some(RangeEntry {
                     start: found.start,
                     end: found.end,
                     value: (),
@@ -68,26 +68,26 @@ impl<T: Integer> Plan<T> {
 
     // Updates the plan with the start of an entry.
     fn see_start(&mut self, lo: T, hi: T, found: RangeEntry<T, bool>)
-        requires { self.old.gone + 1 < 2 ^ 64 }
+        requires { self.old.removed_count + 1 < 2 ^ 64 }
         ensures seen { shown_plan T.rank self.new ≡ seen_start (T.rank lo) (T.rank hi)
             (shown_plan T.rank self.old) (shown_found T.rank found) }
-        ensures gone { self.new.gone ≤ self.old.gone + 1 }
+        ensures removed_count { self.new.removed_count ≤ self.old.removed_count + 1 }
     {
         if is_below(found.start, lo) {
-            self.left = Some(found);
+            self.predecessor = Some(found);
         } else if is_at_most(found.start, lo) {
             self.first = Some(found);
         } else if found.value || is_at_most(found.end, hi) {
-            self.gone += 1;
+            self.removed_count += 1;
         }
     }
 
     /// Updates the plan with the next entry below. O(1).
     pub fn see(&mut self, lo: T, hi: T, found: RangeEntry<T, bool>)
-        requires { self.old.gone + 1 < 2 ^ 64 }
+        requires { self.old.removed_count + 1 < 2 ^ 64 }
         ensures seen { shown_plan T.rank self.new
             ≡ seen (T.rank lo) (T.rank hi) (shown_plan T.rank self.old) (shown_found T.rank found) }
-        ensures gone { self.new.gone ≤ self.old.gone + 1 }
+        ensures removed_count { self.new.removed_count ≤ self.old.removed_count + 1 }
     {
         self.see_end(hi, found);
         self.see_start(lo, hi, found);
@@ -97,7 +97,12 @@ impl<T: Integer> Plan<T> {
 // Returns the entry's first and last key, and whether its value equals `value`. If `value` is `None`, nothing is
 // compared.
 #[inline(always)]
-fn beside<T: Integer, V: Eq>(start: T, end: T, other: &V, value: Option<&V>) -> RangeEntry<T, bool>
+fn compared_entry<T: Integer, V: Eq>(
+    start: T,
+    end: T,
+    other: &V,
+    value: Option<&V>,
+) -> RangeEntry<T, bool>
     ensures { shown_found T.rank result
         ≡ (T.rank start, T.rank end, is_sought V.eq (option_copied value.entry) other.now) }
 {
@@ -129,7 +134,7 @@ fn next_found<'a, T: Integer, V: Eq>(
     match entries.next_back() {
         Some(last) => {
             let (start, end, held) = last;
-            Some((beside(start, end, held, value), held))
+            Some((compared_entry(start, end, held, value), held))
         }
         None => None,
     }
@@ -164,14 +169,14 @@ pub fn next_or_last<T: Integer>(key: T) -> T
     }
 }
 
-/// The result of a walk down the entries, for an edit of the keys of a range. `outside` is the given length less the
+/// The result of a walk down the entries, for an edit of the keys of a range. `keys_outside` is the given length less the
 /// number of keys that the range shares with the entries. `above` is a clone of the value of the entry that extends
 /// both below and above the range. `value` is a clone of the value of the range's first key. Each clone is `None`
 /// unless it was needed.
 #[derive(Drop)]
 pub struct Walk<T: Integer, V> {
     pub plan: Plan<T>,
-    pub outside: T::SafeLen,
+    pub keys_outside: T::SafeLen,
     pub above: Option<V>,
     pub value: Option<V>,
 }
@@ -191,12 +196,12 @@ pub fn look_down<'a, T: Integer, V: Eq>(
 ) -> (Plan<T>, T::SafeLen, Option<&'a V>)
     requires order { T.rank lo ≤ℤ T.rank hi }
     requires ranges { RangesAscend T.low T.high tree.now }
-    requires len { covered (T.rank lo) (T.rank hi) tree.now
+    requires len { covered_keys (T.rank lo) (T.rank hi) tree.now
         ≤ℤ pos (T.SafeLen.number len) }
     ensures plan { IsSeenIn (is_sought V.eq (option_copied value.entry)) (T.rank lo) (T.rank hi)
         tree.now (shown_plan T.rank result.0) }
     ensures len { pos (T.SafeLen.number result.1)
-        +ℤ covered (T.rank lo) (T.rank hi) tree.now
+        +ℤ covered_keys (T.rank lo) (T.rank hi) tree.now
         ≡ pos (T.SafeLen.number len) }
     ensures value { option_copied result.2
         ≡ at tree.now (T.rank lo) }
@@ -207,35 +212,35 @@ pub fn look_down<'a, T: Integer, V: Eq>(
     tree.in_hand();
     let _ = tree.len();
     let mut plan = Plan::new(hi);
-    let mut left = len;
+    let mut keys_outside = len;
     let mut held = None;
     let top = next_or_last(hi);
     let mut entries = tree.iter_up_to(top);
     while let Some(next) = next_found(&mut entries, value, looks) {
         let (found, here) = next;
-        left = length_outside(left, found, lo, hi);
+        keys_outside = length_outside(keys_outside, found, lo, hi);
         plan.see(lo, hi, found);
         held = seen_value(lo, held, found, here);
         if is_below(found.start, lo) {
-            return (plan, left, held);
+            return (plan, keys_outside, held);
         }
     }
-    (plan, left, held)
+    (plan, keys_outside, held)
 }
 
-/// Clones the value of the range's first key if the entry `left`, which starts below the range, extends above it with
+/// Clones the value of the range's first key if the entry `predecessor`, which starts below the range, extends above it with
 /// an unequal value. In that case the key belongs to the entry.
 pub fn above_cloned<T: Integer, V: Clone>(
-    left: Option<RangeEntry<T, bool>>,
+    predecessor: Option<RangeEntry<T, bool>>,
     hi: T,
     held: Option<&V>,
 ) -> Result<Option<V>, AllocError>
-    ensures clone { IfOk result (λ r. IfSome left (λ f. T.rank hi <ℤ T.rank f.end → f.value ≡ false
+    ensures clone { IfOk result (λ r. IfSome predecessor (λ f. T.rank hi <ℤ T.rank f.end → f.value ≡ false
         → IsClonedIf V.is_clone true (option_copied held.entry) r)) }
     ensures refused { OnErr result
-        (IsSomeAnd left (λ f. (T.rank hi <ℤ T.rank f.end) × (f.value ≡ false))) }
+        (IsSomeAnd predecessor (λ f. (T.rank hi <ℤ T.rank f.end) × (f.value ≡ false))) }
 {
-    match left {
+    match predecessor {
         Some(found) if !found.value && is_below(hi, found.end) => {
             let above = held.cloned()?;
             Ok(above)

@@ -56,7 +56,7 @@ impl<T: Integer, V: Eq + Drop> IntoIterMap<T, V> {
     }
 
     /// Returns the number of ranges of which no key was yielded.
-    pub(crate) fn whole_len(&self) -> usize
+    pub(crate) fn unopened_len(&self) -> usize
         ensures value { result ≡ length self.now.inner }
         ensures bound { result ≤ length (pairs_left T.of_rank (λ es. es) self.now) }
     {
@@ -158,7 +158,7 @@ impl<T: Integer, V: Eq + Clone> Iterator for IntoIterMap<T, V> {
             (UpTo (item_count (pairs_left T.of_rank (λ es. es)) self.now)) }
         ensures hint { result ≡ (length self.now.inner, None) }
     {
-        (self.whole_len(), None)
+        (self.unopened_len(), None)
     }
 }
 

@@ -59,7 +59,7 @@ impl<T: Integer, V: Eq + Drop> Iterator for IntoKeys<T, V> {
             (UpTo (item_count (keys_left T.of_rank (λ es. es)) self.now)) }
         ensures hint { result ≡ (length self.now.inner, None) }
     {
-        (self.pairs.whole_len(), None)
+        (self.pairs.unopened_len(), None)
     }
 }
 

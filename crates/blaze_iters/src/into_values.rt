@@ -70,7 +70,7 @@ impl<T: Integer, V: Eq + Clone> Iterator for IntoValues<T, V> {
             (UpTo (item_count (values_left T.of_rank (λ es. es)) self.now)) }
         ensures hint { result ≡ (length self.now.inner, None) }
     {
-        (self.pairs.whole_len(), None)
+        (self.pairs.unopened_len(), None)
     }
 }
 

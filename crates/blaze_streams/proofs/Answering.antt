@@ -1,5 +1,5 @@
 -- The results of a closure at the entries of a list so far, and one more result.
-use Rattle.blaze_streams.proofs.Words.{⊤, option_or, ◌≡◌, ℤ, pos, ◌+ℤ◌, ◌-ℤ◌, Bool, List, [], ◌∷◌, ◌++◌, Some, length, map, refl, ◌∙◌, sym, ap, subst, append_assoc, arith, FoldsTo, zip, Mut, IsEquivalence, FoldsTo-push, ints, map-append, append-nil, same_along, same_trans, same_or_left, Entry, entry, at, SameOption, IsCanonical, IsRangeMap, AreKeys, glue, IsBelow, are_keys_glue, canonical, one_per_run, canonical_glue, at_glue, below_glue, below_more, at_append, values, answered, EachValue, AnswersAtValue, SomeCallAtValue, TakesValue, IsCallableAtEachValue, IsTransformed, first_key}
+use Rattle.blaze_streams.proofs.Words.{⊤, option_or, ◌≡◌, ℤ, pos, ◌+ℤ◌, ◌-ℤ◌, Bool, List, [], ◌∷◌, ◌++◌, Some, length, map, refl, ◌∙◌, sym, ap, subst, append_assoc, arith, FoldsTo, zip, Mut, IsEquivalence, FoldsTo-push, ints, map-append, append-nil, same_along, same_trans, same_or_left, Entry, entry, at, SameOption, IsCanonical, IsRangeMap, AreKeys, glue, IsBelow, are_keys_glue, canonical, one_per_run, canonical_glue, at_glue, below_glue, below_more, at_append, values, entries_with_results, EachValue, AnswersAtValue, SomeCallAtValue, TakesValue, IsCallableAtEachValue, IsTransformed, first_key}
 use Rattle.blaze_streams.proofs.Steady.{same_some}
 
 -- the entries of calls, each with its result
@@ -40,7 +40,7 @@ module _ {F A V W : Type 0} (shows : A → V) (g : Mut F A W) where
   many [] = refl
   many (c ∷ cs) = omega (arith, many cs)
 
-  made : (calls : List (Entry V × W)) → answered (asked calls) (map (λ c. c.1) calls) ≡ map with_answer calls
+  made : (calls : List (Entry V × W)) → entries_with_results (asked calls) (map (λ c. c.1) calls) ≡ map with_answer calls
   made [] = refl
   made (c ∷ cs) = ap (λ l. with_answer c ∷ l) (made cs)
 
@@ -123,5 +123,5 @@ module _ {F A V W : Type 0} (shows : A → V) (g : Mut F A W) where
               calls = subst (λ l. FoldsTo (λ j c k. AnswersAtValue shows g j c.0 c.1 k) f (zip (values l) (map (λ c. c.1) h.calls)) f') (sym entries) (in_turn h.calls f f' h.turns);
             };
             range_map = record { runs = one_per_run eq laws out h.canonical; keys = h.keys };
-            content = λ k. same_along eq refl (ap (λ l. at l k) (sym (made h.calls) ∙ ap (λ l. answered l (map (λ c. c.1) h.calls)) (sym entries))) (h.content k);
+            content = λ k. same_along eq refl (ap (λ l. at l k) (sym (made h.calls) ∙ ap (λ l. entries_with_results l (map (λ c. c.1) h.calls)) (sym entries))) (h.content k);
           }

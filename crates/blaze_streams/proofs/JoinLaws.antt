@@ -1,18 +1,18 @@
 -- The laws of joins and of the results of closures.
-use Rattle.blaze_streams.proofs.Words.{same_value, ◌≡◌, ℤ, ◌≤ℤ◌, Bool, true, false, ◌&&◌, cond, List, [], ◌∷◌, length, map, Option, Some, None, refl, ◌∙◌, sym, subst, ap, arith, option_eq, option_map, is_some, IsEquivalence, lists_equiv, options_equiv, same_itself, is_some_alike, Entry, entry, holds, at, SameOption, SameEntries, IsApart, IsCanonical, canonical_is_unique, IsAbove-from_apart, at_in, at_over, at_before, ints, by_lt_z, canonical, one_per_run, Inner, Left, Full, answered, as_row, AnswersKeepKeys, LeftJoinHasLeftKeys, FullJoinIsOfListOfTwo, FullJoinIsInner, paired, pair_eq, present, row_eq}
+use Rattle.blaze_streams.proofs.Words.{same_value, ◌≡◌, ℤ, ◌≤ℤ◌, Bool, true, false, ◌&&◌, cond, List, [], ◌∷◌, length, map, Option, Some, None, refl, ◌∙◌, sym, subst, ap, arith, option_eq, option_map, is_some, IsEquivalence, lists_equiv, options_equiv, same_itself, is_some_alike, Entry, entry, holds, at, SameOption, SameEntries, IsApart, IsCanonical, canonical_is_unique, IsAbove-from_apart, at_in, at_over, at_before, ints, by_lt_z, canonical, one_per_run, Inner, Left, Full, entries_with_results, as_row, AnswersKeepKeys, LeftJoinHasLeftKeys, FullJoinIsOfListOfTwo, FullJoinIsInner, paired, pair_eq, present, row_eq}
 use Rattle.blaze_streams.proofs.Paired.{pair_laws}
 
 either_some : {V W : Type 0} (b : Bool) (v : V) (w : W) (x : Option V) (y : Option W) → is_some y ≡ is_some x → is_some (cond b (Some w) y) ≡ is_some (cond b (Some v) x)
 either_some true v w x y p = refl
 either_some false v w x y p = p
 
-answered_keys : {V W : Type 0} (entries : List (Entry V)) (answers : List W) → length answers ≡ length entries → (k : ℤ) → is_some (at (answered entries answers) k) ≡ is_some (at entries k)
+answered_keys : {V W : Type 0} (entries : List (Entry V)) (answers : List W) → length answers ≡ length entries → (k : ℤ) → is_some (at (entries_with_results entries answers) k) ≡ is_some (at entries k)
 answered_keys [] answers l k = refl
 answered_keys (e ∷ es) [] l k = absurd (omega (arith, l))
-answered_keys (e ∷ es) (w ∷ ws) l k = either_some (holds e k) e.value w (at es k) (at (answered es ws) k) (answered_keys es ws (omega (arith, l)) k)
+answered_keys (e ∷ es) (w ∷ ws) l k = either_some (holds e k) e.value w (at es k) (at (entries_with_results es ws) k) (answered_keys es ws (omega (arith, l)) k)
 
 pub answers_keep_keys : (V : Type 0) {W : Type 0} (eq : W → W → Bool) → AnswersKeepKeys V eq
-answers_keep_keys V eq entries answers new l same k = is_some_alike eq (at new k) (at (answered entries answers) k) (same k) ∙ answered_keys entries answers l k
+answers_keep_keys V eq entries answers new l same k = is_some_alike eq (at new k) (at (entries_with_results entries answers) k) (same k) ∙ answered_keys entries answers l k
 
 left_there : {A B : Type 0} (x : Option A) (y : Option B) → is_some (paired Left x y) ≡ is_some x
 left_there None y = refl

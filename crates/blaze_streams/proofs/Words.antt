@@ -40,7 +40,7 @@ pub use Rattle.blaze_int.proofs.Naturals.{nat_of-pos, next_differs}
 pub use Rattle.blaze_int.proofs.Options.{is_none, same_value}
 pub use Rattle.blaze_int.specs.Ranked.{IsNextKey}
 pub use Rattle.blaze_int.specs.Unsigned.{nat_of}
-pub use Rattle.blaze_streams.specs.Answers.{EachValue, answered, values, AnswersAtValue, SomeCallAtValue, TakesValue, IsCallableAtEachValue, IsTransformed}
+pub use Rattle.blaze_streams.specs.Answers.{EachValue, entries_with_results, values, AnswersAtValue, SomeCallAtValue, TakesValue, IsCallableAtEachValue, IsTransformed}
 pub use Rattle.blaze_streams.specs.Carried.{shown_option, AreOptions, IsItOrCarried, ArePairsCarried, shown_pair}
 pub use Rattle.blaze_streams.specs.Choosing.{IsTaken, IsTakenAlone, PutsValue, PutsAlike, ahead_of}
 pub use Rattle.blaze_streams.specs.Cursors.{lesser, AllCanonical, first_keys, all_after, IsNextSegment, first_key, FirstHas, Reaches, IsFrom, steady_to, AllFrom, all_steady_to, AllReach}

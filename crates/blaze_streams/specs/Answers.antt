@@ -10,8 +10,8 @@ abbrev pub values : {V : Type 0} → List (Entry V) → List V
 values es = map (λ e. e.value) es
 
 -- the entries, each with a result instead of its value
-abbrev pub answered : {V W : Type 0} → List (Entry V) → List W → List (Entry W)
-answered es answers = map (λ c. entry c.0.lo c.0.hi c.1) (zip es answers)
+abbrev pub entries_with_results : {V W : Type 0} → List (Entry V) → List W → List (Entry W)
+entries_with_results es answers = map (λ c. entry c.0.lo c.0.hi c.1) (zip es answers)
 
 -- P is true of the value of each entry
 abbrev pub EachValue : {V : Type 0} → (V → Type 0) → List (Entry V) → Type 0
@@ -49,4 +49,4 @@ module _ {F A V W : Type 0} (shows : A → V) (g : Mut F A W) where
     pub answers : List W
     pub in_turn : AnswersInTurn f (values entries) answers
     pub range_map : IsRangeMap eq low high new
-    pub content : (k : ℤ) → SameOption eq (at new k) (at (answered entries answers) k)
+    pub content : (k : ℤ) → SameOption eq (at new k) (at (entries_with_results entries answers) k)

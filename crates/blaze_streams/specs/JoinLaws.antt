@@ -3,7 +3,7 @@ use Rattle.std.specs.Prelude.{◌≡◌, ℤ, Bool, List, [], ◌∷◌, length,
 use Rattle.std.specs.Option.{is_some}
 use Rattle.blaze_table.specs.Entries.{Entry, entry, at, SameOption}
 use Rattle.blaze_streams.specs.declared.segmenting.joins.JoinKind.TheVariants.{Inner, Left, Full}
-use Rattle.blaze_streams.specs.Answers.{answered}
+use Rattle.blaze_streams.specs.Answers.{entries_with_results}
 use Rattle.blaze_streams.specs.Joins.{IsJoinOf}
 use Rattle.blaze_streams.specs.Segments.{IsSegmentsOf}
 
@@ -13,7 +13,7 @@ as_row e = entry e.lo e.hi (e.value.0 ∷ e.value.1 ∷ [])
 
 -- one result for each entry, instead of its value, keeps the keys that have a value
 abbrev pub AnswersKeepKeys : {W : Type 0} → (V : Type 0) → (W → W → Bool) → Type 0
-AnswersKeepKeys {W} V eq = (entries : List (Entry V)) (answers : List W) (new : List (Entry W)) → length answers ≡ length entries → ((k : ℤ) → SameOption eq (at new k) (at (answered entries answers) k)) → (k : ℤ) → is_some (at new k) ≡ is_some (at entries k)
+AnswersKeepKeys {W} V eq = (entries : List (Entry V)) (answers : List W) (new : List (Entry W)) → length answers ≡ length entries → ((k : ℤ) → SameOption eq (at new k) (at (entries_with_results entries answers) k)) → (k : ℤ) → is_some (at new k) ≡ is_some (at entries k)
 
 -- the segments of a left join have the keys of the left list
 abbrev pub LeftJoinHasLeftKeys : {A B : Type 0} → (A → A → Bool) → (B → B → Bool) → ℤ → ℤ → Type 0

@@ -83,13 +83,13 @@ impl<VCL: ValueCarrier, VCR: ValueCarrier, W, F: FnMut(Option<VCL>, Option<VCR>)
 }
 
 /// The closure gets the left stream's carrier, and the right stream's if it exists, at a segment of a left join.
-pub struct WithLeft;
+pub struct OnLeft;
 
 impl<VCL: ValueCarrier, VCR: ValueCarrier, W, F: FnMut(VCL, Option<VCR>) -> W> Asks<
     F,
     (Option<VCL>, Option<VCR>),
     W,
-> for WithLeft {
+> for OnLeft {
     type Arguments = (VCL, (Option<VCR>, ()));
 
     ghost shows = { with_left VCL.shown VCR.shown };

@@ -38,9 +38,9 @@ pub use Rattle.blaze_entries.proofs.Underway.{overlap_none, IsWalkUnderway, begi
 pub use Rattle.blaze_entries.specs.Cloned.{IsManyCloned, IsRangeCloned, AreCloned}
 pub use Rattle.blaze_entries.specs.Counted.{CountedEntries, uncounted}
 pub use Rattle.blaze_entries.specs.Found.{range_in, found_in, is_sought, shown_ends, shown_found}
-pub use Rattle.blaze_entries.specs.Overlap.{shared}
-pub use Rattle.blaze_entries.specs.Starts.{StartsAscend, last_below, reaching, holder_of, start_at, with_entry, without, with_end, IsStartMoved, below, from, IsCloneInserted, IsFirstRemoved, first_entry, first_from, with_last_end, IsLastRemoved, IsFrontReplaced, with_end_value, up_to}
-pub use Rattle.blaze_entries.specs.Walked.{shown_plan, IsClonedIf, Seen, IsLookedAt, RangesAscend, end_of, IsSeenIn, IsAboveCloned, GoesOnUnlike, IsWalk}
+pub use Rattle.blaze_entries.specs.Overlap.{shared_count}
+pub use Rattle.blaze_entries.specs.Starts.{StartsAscend, last_below, entry_reaching, holder_of, start_at, with_entry, without, with_end, IsStartMoved, below, from, IsCloneInserted, IsFirstRemoved, first_entry, first_from, with_last_end, IsLastRemoved, IsFrontReplaced, with_end_value, up_to}
+pub use Rattle.blaze_entries.specs.Walked.{shown_plan, IsClonedIf, Seen, HasWalkLookups, RangesAscend, end_of, IsSeenIn, IsAboveCloned, GoesOnUnlike, IsWalk}
 pub use Rattle.blaze_entries.specs.declared.range_entry.RangeEntry.{RangeEntry}
 pub use Rattle.blaze_entries.specs.declared.scan.Plan.{Plan}
 pub use Rattle.blaze_int.proofs.Comparisons.{eq_true, le_true, le_false, lt_true, lt_false, lt_holds, not_both, le_holds, le_fails, lt_fails, by_bool, eq_holds, and_fails, max_right}
@@ -48,15 +48,15 @@ pub use Rattle.blaze_int.proofs.Naturals.{nat_of-pos, by_less}
 pub use Rattle.blaze_int.proofs.Options.{if_err, is_none, none_is_not}
 pub use Rattle.blaze_int.specs.Unsigned.{nat_of}
 pub use Rattle.blaze_table.specs.Canonical.{IsCanonical, AreKeys, IsApart, IsRunStart, IsRunEnd, HasStart, HasEnd, IsClear, IsDisjoint, IsAscending, IsOnePerRun, IsRangeMap}
-pub use Rattle.blaze_table.specs.CanonicalOf.{IsCanonicalOf, keyed}
+pub use Rattle.blaze_table.specs.CanonicalOf.{IsCanonicalOf, keyed_count}
 pub use Rattle.blaze_table.specs.Count.{keys_in, mapped_keys}
-pub use Rattle.blaze_table.specs.Cut.{cut_at, cut_range_at, IsRangeCut, IsAmongOthers, GoesOnAbove, below_at, from_at, IsCut, IsSplit, IsLastCut, IsFirstCut}
-pub use Rattle.blaze_table.specs.Edited.{IsPlace, IsLeft, IsRestPut, goes, HasRoom, IsLikeRest}
+pub use Rattle.blaze_table.specs.Cut.{cut_at, cut_range_at, IsRangeCut, IsAmongOthers, GoesOnAbove, below_at, from_at, IsKeyRemoved, IsSplit, IsLastKeyRemoved, IsFirstKeyRemoved}
+pub use Rattle.blaze_table.specs.Edited.{IsEditPlan, IsPredecessor, IsTailSplit, is_removed, HasRoom, IsLikeTail}
 pub use Rattle.blaze_table.specs.Ending.{ending_from, overlapping}
 pub use Rattle.blaze_table.specs.Entries.{Entry, at, SameOption, entry, entry_at, SameEntries, holds, SameContent, shown_list, shown_entry}
 pub use Rattle.blaze_table.specs.Equality.{same_entry, same_entries}
-pub use Rattle.blaze_table.specs.Filled.{AreStartsKept, filled, IsFilled, IsHeldFrom, IsKeptIn, IsFirstGap, AreKept}
-pub use Rattle.blaze_table.specs.Filling.{never, IsOrdered, IsJoint, IsJoinedAt, IsJoinedBut, IsBeside, IsNoted, IsFilledBut, IsFilling, IsGapFilled, IsOrderedTable, IsGapEnd, IsNextGap, AreThere, GoesBack, taken}
+pub use Rattle.blaze_table.specs.Filled.{AreStartsKept, filled, IsFilled, IsMappedFrom, IsKeptIn, IsFirstGap, AreKept}
+pub use Rattle.blaze_table.specs.Filling.{never_equal, IsOrdered, IsJoint, IsJoinedAt, IsJoinedBut, IsBeside, IsNoted, IsFilledBut, IsFilling, IsGapFilled, IsOrderedTable, IsGapEnd, IsNextGap, AreThere, GoesBack, taken}
 pub use Rattle.blaze_table.specs.Gap.{IsGap, IsClearFrom}
 pub use Rattle.blaze_table.specs.Held.{held_value, PutsPiece}
 pub use Rattle.blaze_table.specs.Keeping.{AddsKey, IsKept, KeepsMore}
@@ -64,15 +64,15 @@ pub use Rattle.blaze_table.specs.LastBelow.{IsLastBelow}
 pub use Rattle.blaze_table.specs.Laws.{PairsAreContent, CanonicalIsShortest, CanonicalIsUnique, CanonicalIsFewest, LengthsAreMapped}
 pub use Rattle.blaze_table.specs.Painted.{ClonesAreAlike, IsApartFrom, IsAlreadyIn, IsInside, LeavesAlone, painted, last_at, painted_in_order, IsPainted}
 pub use Rattle.blaze_table.specs.Pairs.{pairs_from, pairs_of, pair_list, value_at, IsAscendingPairs}
-pub use Rattle.blaze_table.specs.Pieces.{place_cmp, IsWaiting, KeepsReaching, ArePlacedBelow, IsPlaced, EndsAreKeys, ArePlaced, IsPiece, HasKey, HasStarted, places_of, AreAscending}
-pub use Rattle.blaze_table.specs.Planned.{rest_of, IsLooked, IsWalkOf, IsWorked, inner, moved, IsRest, IsRestKept, IsStartPut, IsPutAt, IsEndPut, IsRestOf, IsEnd, IsUnjoined, joined_start, IsPlanOf, reaches, IsLikeAbove, IsJoinedTo, IsEndAfter, IsUnlikeAbove, GoesOnUnequal}
+pub use Rattle.blaze_table.specs.Pieces.{place_cmp, IsWaiting, KeepsReaching, ArePairsPlacedBelow, IsPlacedPair, EndsAreKeys, AreAllPairsPlaced, IsPiece, HasKey, HasStarted, places_of, AreAscending}
+pub use Rattle.blaze_table.specs.Planned.{tail_of, HasEditLookups, IsWalkOf, IsWorked, inner_entries, moved_count, IsTail, AreOtherEntriesKept, IsEntrySet, IsEntryBetween, IsEntryExtended, IsEntryAcross, IsJoinedEnd, IsUnjoined, joined_start, IsPlanOf, reaches, IsLikeAbove, IsJoinedTo, IsJoinedEndAfter, IsUnlikeAbove, GoesOnUnequal}
 pub use Rattle.blaze_table.specs.Printed.{range_text, ranges_text, set_text}
 pub use Rattle.blaze_table.specs.RangeSets.{unit_eq, IsRangeSet, IsSetOf, same_ranges, shown_bare_range, shown_bare_ranges}
 pub use Rattle.blaze_table.specs.Retain.{AnswersAtPair, IsKeyRetained, TakesPair}
-pub use Rattle.blaze_table.specs.Splice.{before, after, glue, IsBelow, IsRangeCutOf, IsCutOf, IsTableCut, overlap, covered, IsKeyTaken, IsKeyCut, IsRangeTaken, IsSplitOf, IsListSplit, IsSameAbove, is_joinable, join, paint, IsListPainted, IsPaintOf, IsTablePainted}
+pub use Rattle.blaze_table.specs.Splice.{before, after, glue, IsBelow, IsListWithoutRange, IsListWithoutKey, IsTableCut, overlap, covered_keys, IsKeyTaken, IsKeyCut, IsRangeTaken, IsSplitOf, IsListSplit, IsSameAbove, is_joinable, join, paint, IsListPainted, IsPaintOf, IsTablePainted}
 pub use Rattle.blaze_table.specs.Swept.{AreApart, key_after, IsSwept, IsBare}
 pub use Rattle.blaze_table.specs.Table.{IsTable}
 pub use Rattle.blaze_table.specs.Work.{IsCountedCut, IsCounted, IsCountedPaint, PutsAtMost}
 pub use Rattle.blaze_table.specs.declared.sweep.held.Held.{Held}
-pub use Rattle.blaze_table.specs.declared.sweep.held.Held.TheVariants.{Moved, Kept}
+pub use Rattle.blaze_table.specs.declared.sweep.held.Held.TheVariants.{Moved, Present}
 pub use Rattle.blaze_table.specs.declared.sweep.placed.Placed.{Placed}

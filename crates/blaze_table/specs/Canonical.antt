@@ -58,7 +58,7 @@ pub record IsRangeMap {V : Type 0} (eq : V → V → Bool) (low high : ℤ) (ent
 
 -- ---- by structure
 
--- the next entry starts above this one's end, and if the two touch, their values are unequal
+-- the next entry starts above the end of this entry, and if the two touch, their values are unequal
 abbrev pub IsApart : {V : Type 0} → (V → V → Bool) → Entry V → List (Entry V) → Type 0
 IsApart eq e [] = Unit {0}
 IsApart eq e (f ∷ fs) = (e.hi <ℤ f.lo) × (f.lo ≡ e.hi +ℤ pos 1 → eq e.value f.value ≡ false)

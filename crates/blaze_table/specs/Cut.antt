@@ -23,21 +23,21 @@ abbrev pub from_at : {V : Type 0} → ℤ → (ℤ → Option V) → ℤ → Opt
 from_at k content j = if int_le k j then content j else None
 
 -- the effect of removing the key k from a range map
-pub record IsCut {V : Type 0} (eq : V → V → Bool) (low high : ℤ) (k : ℤ) (old new : List (Entry V)) : Type 0 where
+pub record IsKeyRemoved {V : Type 0} (eq : V → V → Bool) (low high : ℤ) (k : ℤ) (old new : List (Entry V)) : Type 0 where
   pub range_map : IsRangeMap eq low high new
   pub content : (j : ℤ) → SameOption eq (at new j) (cut_at k (at old) j)
 
 -- the first entry's first key was removed, and its value was equal to the returned one
-pub record IsFirstCut {V : Type 0} (eq : V → V → Bool) (low high k : ℤ) (value : V) (old new : List (Entry V)) : Type 0 where
+pub record IsFirstKeyRemoved {V : Type 0} (eq : V → V → Bool) (low high k : ℤ) (value : V) (old new : List (Entry V)) : Type 0 where
   pub first : option_map (λ e. e.lo) (slice_get old 0) ≡ Some k
   pub equal : SameOption eq (at old k) (Some value)
-  pub cut : IsCut eq low high k old new
+  pub cut : IsKeyRemoved eq low high k old new
 
 -- the last entry's last key was removed, and its value was equal to the returned one
-pub record IsLastCut {V : Type 0} (eq : V → V → Bool) (low high k : ℤ) (value : V) (old new : List (Entry V)) : Type 0 where
+pub record IsLastKeyRemoved {V : Type 0} (eq : V → V → Bool) (low high k : ℤ) (value : V) (old new : List (Entry V)) : Type 0 where
   pub last : option_map (λ e. e.hi) (slice_get old (length old - 1)) ≡ Some k
   pub equal : SameOption eq (at old k) (Some value)
-  pub cut : IsCut eq low high k old new
+  pub cut : IsKeyRemoved eq low high k old new
 
 -- the entry that contains the key k has other keys too
 pub record IsAmongOthers {V : Type 0} (k : ℤ) (entries : List (Entry V)) : Type 0 where

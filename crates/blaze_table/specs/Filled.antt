@@ -33,8 +33,8 @@ pub record IsFilled {V : Type 0} (eq : V → V → Bool) (low high : ℤ) (p : E
   pub kept : AreKept eq (filled p.lo p.hi p.value (at old)) old new
 
 -- each key from a to b has a value
-abbrev pub IsHeldFrom : {V : Type 0} → (ℤ → Option V) → ℤ → ℤ → Type 0
-IsHeldFrom content a b = (k : ℤ) → a ≤ℤ k → k ≤ℤ b → IsSome (content k)
+abbrev pub IsMappedFrom : {V : Type 0} → (ℤ → Option V) → ℤ → ℤ → Type 0
+IsMappedFrom content a b = (k : ℤ) → a ≤ℤ k → k ≤ℤ b → IsSome (content k)
 
 -- The keys from a to b are the first gap from l to h. All keys from l to before a have a value, and no key from a to b
 -- has one. b is h, or the key after b has a value.

@@ -10,16 +10,16 @@ use Rattle.blaze_table.specs.Gap.{IsClearFrom}
 use Rattle.blaze_table.specs.Table.{IsTable}
 
 -- no two values are equal
-abbrev pub never : {V : Type 0} → V → V → Bool
-never x y = false
+abbrev pub never_equal : {V : Type 0} → V → V → Bool
+never_equal x y = false
 
 -- no range is empty, and each starts above the end of the previous one
 abbrev pub IsOrdered : {V : Type 0} → List (Entry V) → Type 0
-IsOrdered es = IsCanonical never es
+IsOrdered es = IsCanonical never_equal es
 
 -- an ordered list whose ends are keys, with its number of keys
 abbrev pub IsOrderedTable : {V : Type 0} → ℤ → ℤ → ℕ → List (Entry V) → Type 0
-IsOrderedTable low high n es = IsTable never low high n es
+IsOrderedTable low high n es = IsTable never_equal low high n es
 
 -- the key k has a value, and the key before it has an equal one
 abbrev pub IsJoint : {V : Type 0} → (V → V → Bool) → (ℤ → Option V) → ℤ → Type 0
@@ -27,9 +27,9 @@ IsJoint eq content k = IsSome (content k) × SameOption eq (content (k -ℤ pos 
 
 -- The joints are the keys at which an entry has yet to be joined with the previous one. Every other start is a run
 -- start.
-pub record IsJoinedBut {V : Type 0} (eq : V → V → Bool) (joints : List ℤ) (es : List (Entry V)) : Type 0 where
-  pub starts : (k : ℤ) → HasStart es k → IsRunStart eq (at es) k ⊎ Contains joints k
-  pub equal : (k : ℤ) → Contains joints k → IsJoint eq (at es) k
+pub record IsJoinedBut {V : Type 0} (eq : V → V → Bool) (join_keys : List ℤ) (es : List (Entry V)) : Type 0 where
+  pub starts : (k : ℤ) → HasStart es k → IsRunStart eq (at es) k ⊎ Contains join_keys k
+  pub equal : (k : ℤ) → Contains join_keys k → IsJoint eq (at es) k
 
 -- t and u say whether the values right below and right above the keys from a to b are equal to v
 pub record IsBeside {V : Type 0} (eq : V → V → Bool) (content : ℤ → Option V) (v : V) (a b : ℤ) (t u : Bool) : Type 0 where
@@ -51,9 +51,9 @@ pub record IsGapEnd (a h next b : ℤ) : Type 0 where
   pub greatest : (b ≡ h) ⊎ (next ≡ b +ℤ pos 1)
 
 -- no entry is inserted yet, and no joint is recorded
-pub record IsNothingMade {T : Type 0} (starts joints : List T) : Type 0 where
+pub record HasNoEdits {T : Type 0} (starts join_keys : List T) : Type 0 where
   pub no_start : starts ≡ []
-  pub no_joint : joints ≡ []
+  pub no_joint : join_keys ≡ []
 
 -- the key k is added to the joints if it is one
 pub record IsNoted (is_joint : Bool) (k : ℤ) (old new : List ℤ) : Type 0 where
@@ -63,11 +63,11 @@ pub record IsNoted (is_joint : Bool) (k : ℤ) (old new : List ℤ) : Type 0 whe
 
 -- The gap from a to b has a separate entry with the value v, recorded by its start. Its start is a joint if t is true,
 -- and the key after it is a joint if u is true.
-pub record IsGapFilled {V : Type 0} (a b : ℤ) (v : V) (t u : Bool) (old new : List (Entry V)) (starts more joints all : List ℤ) : Type 0 where
+pub record IsGapFilled {V : Type 0} (a b : ℤ) (v : V) (t u : Bool) (old new : List (Entry V)) (starts more join_keys all : List ℤ) : Type 0 where
   pub put : new ≡ with_entry (entry a b v) old
   pub remembered : more ≡ starts ++ a ∷ []
   pub half : List ℤ
-  pub below : IsNoted t a joints half
+  pub below : IsNoted t a join_keys half
   pub above : IsNoted u (b +ℤ pos 1) half all
 
 -- the list without the entries that start at the keys, the last one removed first
@@ -86,7 +86,7 @@ pub record GoesBack {V : Type 0} (starts : List ℤ) (es old : List (Entry V)) :
   pub taken : taken starts es ≡ old
 
 -- The keys from l to before a are filled with v, and the gap from a to b is the next one. Each old entry remains.
-pub record IsFilling {V : Type 0} (eq : V → V → Bool) (l h : ℤ) (v : V) (starts joints : List ℤ) (old cur : List (Entry V)) (a b : ℤ) : Type 0 where
+pub record IsFilling {V : Type 0} (eq : V → V → Bool) (l h : ℤ) (v : V) (starts join_keys : List ℤ) (old cur : List (Entry V)) (a b : ℤ) : Type 0 where
   pub content : (k : ℤ) → SameOption eq (at cur k) (filled l (a -ℤ pos 1) v (at old) k)
   pub kept : (e : Entry V) → Contains old e → Contains cur e
   pub from : l ≤ℤ a
@@ -94,14 +94,14 @@ pub record IsFilling {V : Type 0} (eq : V → V → Bool) (l h : ℤ) (v : V) (s
   pub to : b ≤ℤ h
   pub clear : IsClearFrom (at cur) a b
   pub greatest : (b ≡ h) ⊎ IsSome (at cur (b +ℤ pos 1))
-  pub joined : IsJoinedBut eq joints cur
+  pub joined : IsJoinedBut eq join_keys cur
   pub back : GoesBack starts cur old
 
 -- the keys from l to h are filled with v, and only the entries at the joints are not joined yet; each old entry remains
-pub record IsFilledBut {V : Type 0} (eq : V → V → Bool) (l h : ℤ) (v : V) (starts joints : List ℤ) (old cur : List (Entry V)) : Type 0 where
+pub record IsFilledBut {V : Type 0} (eq : V → V → Bool) (l h : ℤ) (v : V) (starts join_keys : List ℤ) (old cur : List (Entry V)) : Type 0 where
   pub content : (k : ℤ) → SameOption eq (at cur k) (filled l h v (at old) k)
   pub kept : (e : Entry V) → Contains old e → Contains cur e
-  pub joined : IsJoinedBut eq joints cur
+  pub joined : IsJoinedBut eq join_keys cur
   pub back : GoesBack starts cur old
 
 -- The entry that starts at s, if it exists, was joined with the previous one. The content and the number of keys are

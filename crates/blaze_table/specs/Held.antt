@@ -4,17 +4,17 @@ use Rattle.std.specs.Option.{option_map}
 use Rattle.blaze_table.specs.Entries.{Entry, entry, SameOption}
 use Rattle.blaze_table.specs.Splice.{glue}
 use Rattle.blaze_table.specs.declared.sweep.held.Held.{Held}
-use Rattle.blaze_table.specs.declared.sweep.held.Held.TheVariants.{Kept, Moved}
+use Rattle.blaze_table.specs.declared.sweep.held.Held.TheVariants.{Present, Moved}
 use Rattle.blaze_table.specs.declared.sweep.placed.Placed.{Placed}
 
 -- the value of a pair, not moved
 abbrev pub kept_value : {T V : Type 0} → Placed T V → Held V
-kept_value p = Kept p.value
+kept_value p = Present p.value
 
 -- the value, if it was not moved, or else the value of the entry that has it
 abbrev pub held_value : {V : Type 0} → List (Entry V) → Option (Held V) → Option V
 held_value entries None = None
-held_value entries (Some (Kept v)) = Some v
+held_value entries (Some (Present v)) = Some v
 held_value entries (Some (Moved i)) = option_map (λ e. e.value) (slice_get entries i)
 
 abbrev pub value_in : {V : Type 0} → List (Entry V) → List (Held V) → ℕ → Option V

@@ -11,7 +11,7 @@ use Rattle.blaze_table.specs.declared.sweep.placed.Placed.{Placed}
 -- ---- the placed pairs
 
 -- the pair has a key and is in the list at its position
-pub record IsPlaced {T V : Type 0} (rank : T → ℤ) (ps : List (Entry V)) (p : Placed T V) : Type 0 where
+pub record IsPlacedPair {T V : Type 0} (rank : T → ℤ) (ps : List (Entry V)) (p : Placed T V) : Type 0 where
   pub is : slice_get ps p.place ≡ Some (entry (rank p.start) (rank p.end) p.value)
   pub order : rank p.start ≤ℤ rank p.end
 
@@ -19,13 +19,13 @@ abbrev pub places_of : {T V : Type 0} → List (Placed T V) → List ℕ
 places_of placed = map (λ p. p.place) placed
 
 -- the pairs among the first n that have a key, each with its position
-pub record ArePlacedBelow {T V : Type 0} (rank : T → ℤ) (ps : List (Entry V)) (n : ℕ) (placed : List (Placed T V)) : Type 0 where
-  pub known : All (IsPlaced rank ps) placed
+pub record ArePairsPlacedBelow {T V : Type 0} (rank : T → ℤ) (ps : List (Entry V)) (n : ℕ) (placed : List (Placed T V)) : Type 0 where
+  pub known : All (IsPlacedPair rank ps) placed
   pub complete : (j : ℕ) → j < n → (e : Entry V) → slice_get ps j ≡ Some e → e.lo ≤ℤ e.hi → Contains (places_of placed) j
 
 -- the pairs that have a key, each with its position
-abbrev pub ArePlaced : {T V : Type 0} → (T → ℤ) → List (Entry V) → List (Placed T V) → Type 0
-ArePlaced rank ps placed = ArePlacedBelow rank ps (length ps) placed
+abbrev pub AreAllPairsPlaced : {T V : Type 0} → (T → ℤ) → List (Entry V) → List (Placed T V) → Type 0
+AreAllPairsPlaced rank ps placed = ArePairsPlacedBelow rank ps (length ps) placed
 
 -- the pair has the key k
 abbrev pub HasKey : {T V : Type 0} → (T → ℤ) → Placed T V → ℤ → Type 0
@@ -92,4 +92,4 @@ pub record IsSweptSoFar {T V : Type 0} (rank : T → ℤ) (low : ℤ) (placed : 
 
 -- the list is the canonical list of the placed pairs
 abbrev pub IsCanonicalOfPlaced : {T V : Type 0} → (V → V → Bool) → (T → ℤ) → ℤ → ℤ → List (Placed T V) → List (Entry V) → Type 0
-IsCanonicalOfPlaced {T} {V} eq rank low high placed new = (ps : List (Entry V)) → ArePlaced rank ps placed → IsCanonicalOf eq low high ps new
+IsCanonicalOfPlaced {T} {V} eq rank low high placed new = (ps : List (Entry V)) → AreAllPairsPlaced rank ps placed → IsCanonicalOf eq low high ps new

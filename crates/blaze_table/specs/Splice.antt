@@ -4,7 +4,7 @@ use Rattle.std.specs.Prelude.{◌≡◌, ℕ, ℤ, pos, ◌+◌, ◌-◌, ◌≤
 use Rattle.std.specs.List.{Contains, slice_get}
 use Rattle.std.specs.Option.{option_map}
 use Rattle.std.specs.Ordering.{int_eq}
-pub use Rattle.blaze_entries.specs.Overlap.{overlap, covered}
+pub use Rattle.blaze_entries.specs.Overlap.{overlap, covered_keys}
 use Rattle.blaze_table.specs.Entries.{Entry, entry, at, SameEntries, SameOption}
 use Rattle.blaze_table.specs.Canonical.{IsCanonical}
 use Rattle.blaze_table.specs.Painted.{painted, IsApartFrom}
@@ -73,23 +73,23 @@ pub record IsTablePainted {V : Type 0} (eq : V → V → Bool) (low high : ℤ) 
   pub short : length new ≤ length (before p.lo old) + length (after p.hi old) + 1
 
 -- The list without the keys from l to h. Values of the part above may be equal to the old ones instead of the same.
-pub record IsRangeCutOf {V : Type 0} (eq : V → V → Bool) (l h : ℤ) (es new : List (Entry V)) : Type 0 where
+pub record IsListWithoutRange {V : Type 0} (eq : V → V → Bool) (l h : ℤ) (es new : List (Entry V)) : Type 0 where
   pub above : List (Entry V)
   pub like : SameEntries eq (after h es) above
   pub joined : new ≡ before l es ++ above
 
 -- The list without the keys from l to h. Each entry that starts above these keys remains, with its very value.
 pub record IsRangeTaken {V : Type 0} (eq : V → V → Bool) (l h : ℤ) (es new : List (Entry V)) : Type 0 where
-  pub cut : IsRangeCutOf eq l h es new
+  pub cut : IsListWithoutRange eq l h es new
   pub kept : (e : Entry V) → Contains es e → h <ℤ e.lo → Contains new e
 
 -- the list without the key k
-abbrev pub IsCutOf : {V : Type 0} → (V → V → Bool) → ℤ → List (Entry V) → List (Entry V) → Type 0
-IsCutOf eq k es new = IsRangeCutOf eq k k es new
+abbrev pub IsListWithoutKey : {V : Type 0} → (V → V → Bool) → ℤ → List (Entry V) → List (Entry V) → Type 0
+IsListWithoutKey eq k es new = IsListWithoutRange eq k k es new
 
 -- the key k was removed from the list, and its old value is v
 pub record IsKeyTaken {V : Type 0} (eq : V → V → Bool) (k : ℤ) (v : Option V) (old new : List (Entry V)) : Type 0 where
-  pub cut : IsCutOf eq k old new
+  pub cut : IsListWithoutKey eq k old new
   pub value : SameOption eq (at old k) v
 
 -- the key k was removed from a table: the list without it, its number of keys, and the old value of k

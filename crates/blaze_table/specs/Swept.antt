@@ -8,7 +8,7 @@ use Rattle.blaze_table.specs.Splice.{IsBelow}
 abbrev pub IsBare : {V : Type 0} → (ℤ → Option V) → ℤ → ℤ → Type 0
 IsBare wanted a b = (k : ℤ) → a ≤ℤ k → k <ℤ b → wanted k ≡ None
 
--- the list has the wanted content below the key a, and nothing else
+-- the list has the right content below the key a, and nothing else
 pub record IsSwept {V : Type 0} (eq : V → V → Bool) (low high : ℤ) (wanted : ℤ → Option V) (a : ℤ) (out : List (Entry V)) : Type 0 where
   pub canonical : IsCanonical eq out
   pub keys : AreKeys low high out

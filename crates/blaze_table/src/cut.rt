@@ -14,7 +14,7 @@ ghost use Rattle.blaze_table.specs.Splice.{IsKeyTaken, IsKeyCut, IsFirstKeyCut, 
 ghost use Rattle.blaze_table.specs.Table.{IsTable};
 ghost use Rattle.blaze_table.specs.Work.{IsCountedCut, IsRefused};
 
-use crate::edit::take_out;
+use crate::edit::remove_keys;
 use blaze_entries::{Counted, RangeEntry, Walk};
 use blaze_int::compare::is_below;
 use blaze_int::{Integer, SafeLength};
@@ -123,7 +123,7 @@ pub fn cut<T: Integer, V: Eq + Clone>(
     ensures err { OnErr result (IsRefused entries.old entries.new) }
 {
     entries.in_hand();
-    let found = entries.holder(key)?;
+    let found = entries.entry_containing(key)?;
     match found {
         Some(held) => {
             let (value, rest) = cut_held(entries, len, key, held)?;
@@ -179,7 +179,7 @@ pub fn cut_first<T: Integer, V: Eq + Clone>(
     ensures err { OnErr result (IsRefused entries.old entries.new) }
 {
     entries.in_hand();
-    let first = entries.first_held()?;
+    let first = entries.first_range_cloned()?;
     match first {
         Some(held) => {
             let key = held.start;
@@ -270,10 +270,10 @@ pub fn cut_range<T: Integer, V: Eq + Clone>(
     let found = entries.walk(len, lo, hi, sought.as_ref(), false)?;
     let Walk {
         plan,
-        outside,
+        keys_outside,
         above,
         ..
     } = found;
-    take_out(entries, lo, plan, above)?;
-    Ok(outside)
+    remove_keys(entries, lo, plan, above)?;
+    Ok(keys_outside)
 }

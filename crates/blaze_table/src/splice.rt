@@ -10,7 +10,7 @@ ghost use Rattle.blaze_table.specs.Planned.{joined_start, reaches, IsWalkOf, IsW
 ghost use Rattle.blaze_table.specs.Splice.{IsTablePainted};
 ghost use Rattle.blaze_table.specs.Table.{IsTable};
 
-use crate::edit::{extend, put_at};
+use crate::edit::{extend, set_entry};
 use blaze_entries::{Counted, Plan, RangeEntry, Walk};
 use blaze_int::compare::{is_at_most, is_next, length};
 use blaze_int::{Integer, SafeLength};
@@ -19,20 +19,20 @@ use std::alloc::AllocError;
 // Returns whether one entry contains all keys of a range that ends at `hi`, with an equal value.
 fn is_inside<T: Integer>(plan: Plan<T>, hi: T) -> bool
     ensures { result
-        ≡ reaches (T.rank hi) (option_or (shown_plan T.rank plan).first (shown_plan T.rank plan).left) }
+        ≡ reaches (T.rank hi) (option_or (shown_plan T.rank plan).first (shown_plan T.rank plan).predecessor) }
 {
-    match plan.first.or(plan.left) {
+    match plan.first.or(plan.predecessor) {
         Some(found) => found.value && is_at_most(hi, found.end),
         None => false,
     }
 }
 
 // Returns the start of the entry below a painted range if the two are joined.
-fn joined_below<T: Integer>(left: Option<RangeEntry<T, bool>>, lo: T) -> Option<T>
+fn joined_below<T: Integer>(predecessor: Option<RangeEntry<T, bool>>, lo: T) -> Option<T>
     ensures { option_map T.rank result
-        ≡ joined_start (T.rank lo) (option_map (shown_found T.rank) left) }
+        ≡ joined_start (T.rank lo) (option_map (shown_found T.rank) predecessor) }
 {
-    match left {
+    match predecessor {
         Some(found) if found.value && (is_at_most(lo, found.end) || is_next(found.end, lo)) => {
             Some(found.start)
         }
@@ -57,7 +57,7 @@ pub fn paint_planned<T: Integer, V: Eq + Drop>(
     requires table { IsTable V.eq T.low T.high (T.SafeLen.number len) entries.old.entries }
     requires walk { IsWalkOf V.eq (λ w. V.eq w value)
         (T.rank lo) (T.rank hi) entries.old.entries
-        (shown_plan T.rank walk.plan) (T.SafeLen.number walk.outside) walk.above }
+        (shown_plan T.rank walk.plan) (T.SafeLen.number walk.keys_outside) walk.above }
     ensures painted { IfOk result (λ len. IsTablePainted V.eq T.low T.high (T.SafeLen.number len)
         (entry (T.rank lo) (T.rank hi) value) entries.old.entries entries.new.entries) }
     ensures inside { IsInside V.eq (T.rank lo) (T.rank hi) value entries.old.entries
@@ -70,21 +70,21 @@ pub fn paint_planned<T: Integer, V: Eq + Drop>(
     hi.in_hand();
     let Walk {
         plan,
-        outside,
+        keys_outside,
         above,
         ..
     } = walk;
     if is_inside(plan, hi) {
         return Ok(len);
     }
-    let painted = outside.plus(length(lo, hi));
-    match joined_below(plan.left, lo) {
+    let painted = keys_outside.plus(length(lo, hi));
+    match joined_below(plan.predecessor, lo) {
         Some(first) => {
             extend(entries, first, lo, plan)?;
             Ok(painted)
         }
         None => {
-            put_at(entries, lo, value, plan, above)?;
+            set_entry(entries, lo, value, plan, above)?;
             Ok(painted)
         }
     }

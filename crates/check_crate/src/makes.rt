@@ -94,7 +94,7 @@ fn from_lent_ranges_with_lent_words(alloc: Global) -> Answer {
     )
 }
 
-/// A word that is lent.
+/// A borrowed word.
 type Word = &'static &'static str;
 
 /// A list of two ranges, as a stream.

@@ -1,6 +1,6 @@
-//! Worked examples of calls that no line of a script makes: of tables, sets and streams; with values whose clone fails, or that
-//! are equal by a part of them; and with closures that have a state. Each line of the output is the result of a call, or an entry
-//! of a result.
+//! Worked examples of calls that no line of a script makes: those of tables, sets and streams, and those of closures with a
+//! state. Some use values whose clone fails, or values that are equal by a part of them. Each line of the output is the result
+//! of a call, or an entry of a result.
 #![tactic(auto)]
 
 mod coarse;

@@ -162,7 +162,7 @@ fn extensions(rt: &HostRuntime) -> Result<(), AllocError> {
     Ok(())
 }
 
-/// Goes through maps by value.
+/// Goes through owned maps.
 fn iterators(rt: &HostRuntime) -> Result<(), AllocError> {
     let alloc = rt.alloc();
     let mut map = one(alloc, 1, 1, deaf(7))?;

@@ -1,5 +1,5 @@
 -- The keys of joins of maps, and of maps with what a closure answers at their values.
-use Rattle.range_map_blaze.proofs.Words.{nat_of, ◌≡◌, ℕ, zero, suc, ◌+◌, ℤ, pos, ◌+ℤ◌, ◌-ℤ◌, ◌<ℤ◌, Bool, cond, List, [], ◌∷◌, Option, None, refl, ◌∙◌, sym, ap, subst, arith, is_some, IsEquivalence, Mut, ints, by_lt_z, length-map, same_trans, Entry, at, SameOption, AreKeys, canonical_is_unique, at_under, at_over, back, answered, answers_keep_keys, left_join_has_left_keys, full_join_is_inner, AnswersAreOnItsKeys, FullJoinIsInnerJoin, HaveSameKeys, IsUniversalMap, LeftJoinIsOnTheLeftKeys}
+use Rattle.range_map_blaze.proofs.Words.{nat_of, ◌≡◌, ℕ, zero, suc, ◌+◌, ℤ, pos, ◌+ℤ◌, ◌-ℤ◌, ◌<ℤ◌, Bool, cond, List, [], ◌∷◌, Option, None, refl, ◌∙◌, sym, ap, subst, arith, is_some, IsEquivalence, Mut, ints, by_lt_z, length-map, same_trans, Entry, at, SameOption, AreKeys, canonical_is_unique, at_under, at_over, back, entries_with_results, answers_keep_keys, left_join_has_left_keys, full_join_is_inner, AnswersAreOnItsKeys, FullJoinIsInnerJoin, HaveSameKeys, IsUniversalMap, LeftJoinIsOnTheLeftKeys}
 use Rattle.blaze_table.specs.Count.{mapped}
 
 same_mapped : {V W : Type 0} (c : ℤ → Option V) (d : ℤ → Option W) → ((k : ℤ) → is_some (d k) ≡ is_some (c k)) → (a : ℤ) (n : ℕ) → mapped d a n ≡ mapped c a n
@@ -39,8 +39,8 @@ module _ {F X W A B : Type 0} (shows : X → Option A × Option B) (g : Mut F X 
   pub full_join_is_inner_join : {G Y : Type 0} (shows' : Y → Option A × Option B) (g' : Mut G Y W) → IsEquivalence eqa → IsEquivalence eqb → IsEquivalence eq → FullJoinIsInnerJoin shows g eqa eqb eq low high shows' g'
   full_join_is_inner_join shows' g' lawsa lawsb laws f f' left right full inner l r j i answers =
       let segments : j.segments ≡ i.segments = full_join_is_inner eqa eqb lawsa lawsb low high left right j.segments i.segments (same_universal eqa eqb low high left right l r) j.are_segments i.are_segments in
-      let made : answered j.segments j.answered.answers ≡ answered i.segments i.answered.answers = ap (λ s. answered s j.answered.answers) segments ∙ ap (answered i.segments) answers in
+      let made : entries_with_results j.segments j.answered.answers ≡ entries_with_results i.segments i.answered.answers = ap (λ s. entries_with_results s j.answered.answers) segments ∙ ap (entries_with_results i.segments) answers in
       canonical_is_unique eq laws full inner j.answered.range_map.runs i.answered.range_map.runs
-      (λ k. same_trans eq laws (at full k) (at (answered i.segments i.answered.answers) k) (at inner k)
+      (λ k. same_trans eq laws (at full k) (at (entries_with_results i.segments i.answered.answers) k) (at inner k)
       (subst (λ es. SameOption eq (at full k) (at es k)) made (j.answered.content k))
-      (back eq laws inner (answered i.segments i.answered.answers) i.answered.content k))
+      (back eq laws inner (entries_with_results i.segments i.answered.answers) i.answered.content k))

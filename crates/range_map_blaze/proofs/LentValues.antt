@@ -1,5 +1,5 @@
 -- Entries whose values are lent, and the entries with the values themselves.
-use Rattle.range_map_blaze.proofs.Words.{option_or, ◌≡◌, ◌+◌, ℤ, Bool, true, false, cond, List, [], ◌∷◌, ◌++◌, length, map, Option, Some, None, refl, ◌∙◌, sym, ap, subst, arith, int_le, IsEquivalence, map-append, Bor, same_along, same_trans, Entry, at, holds, shown_entry, SameOption, SameEntries, shown_list, IsApart, IsCanonical, AreKeys, IsRangeMap, last_at, painted_in_order, content_as, length_as, canonical, one_per_run, back, keyed, IsCanonicalOf}
+use Rattle.range_map_blaze.proofs.Words.{option_or, ◌≡◌, ◌+◌, ℤ, Bool, true, false, cond, List, [], ◌∷◌, ◌++◌, length, map, Option, Some, None, refl, ◌∙◌, sym, ap, subst, arith, int_le, IsEquivalence, map-append, Bor, same_along, same_trans, Entry, at, holds, shown_entry, SameOption, SameEntries, shown_list, IsApart, IsCanonical, AreKeys, IsRangeMap, last_at, painted_in_order, content_as, length_as, canonical, one_per_run, back, keyed_count, IsCanonicalOf}
 use Rattle.range_map_blaze.proofs.Streams.{range_map_as, same-push}
 
 -- the entry with the value itself
@@ -42,7 +42,7 @@ module _ {V : Type 0} where
   painted_itself : (ps : List (Entry (Bor V))) (k : ℤ) → value_of (painted_in_order ps (at []) k) ≡ painted_in_order (map itself ps) (at []) k
   painted_itself ps k = value_of_or (last_at ps k) None ∙ ap (λ o. option_or o None) (last_itself ps k)
 
-  keyed_itself : (ps : List (Entry (Bor V))) → keyed (map itself ps) ≡ keyed ps
+  keyed_itself : (ps : List (Entry (Bor V))) → keyed_count (map itself ps) ≡ keyed_count ps
   keyed_itself [] = refl
   keyed_itself (p ∷ ps) = ap (λ n. cond (int_le p.lo p.hi) 1 0 + n) (keyed_itself ps)
 

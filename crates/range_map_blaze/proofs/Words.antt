@@ -49,7 +49,7 @@ pub use Rattle.blaze_streams.proofs.LengthsLeft.{lengths_left, all_less}
 pub use Rattle.blaze_streams.proofs.Paired.{joined_all}
 pub use Rattle.blaze_streams.proofs.Steady.{at-after_under, at_below_from, at_first}
 pub use Rattle.blaze_streams.proofs.Taken.{ends}
-pub use Rattle.blaze_streams.specs.Answers.{values, EachValue, AnswersAtValue, answered, TakesValue, SomeCallAtValue}
+pub use Rattle.blaze_streams.specs.Answers.{values, EachValue, AnswersAtValue, entries_with_results, TakesValue, SomeCallAtValue}
 pub use Rattle.blaze_streams.specs.Carried.{shown_option}
 pub use Rattle.blaze_streams.specs.Cursors.{IsFrom, Reaches}
 pub use Rattle.blaze_streams.specs.Fallible.{ok_calls}
@@ -85,12 +85,12 @@ pub use Rattle.blaze_table.proofs.Pairs.UnitLaws.{unit_laws}
 pub use Rattle.blaze_table.proofs.Sweeping.Sweeps.{at_past}
 pub use Rattle.blaze_table.proofs.Walks.Worked.{counted_none, counted_then}
 pub use Rattle.blaze_table.specs.Canonical.{IsCanonical, AreKeys, IsRangeMap, IsApart, IsRunStart, HasEnd, IsDisjoint, IsAscending}
-pub use Rattle.blaze_table.specs.CanonicalOf.{keyed, IsCanonicalOf}
+pub use Rattle.blaze_table.specs.CanonicalOf.{keyed_count, IsCanonicalOf}
 pub use Rattle.blaze_table.specs.Chosen.{left_alone, left_with_right, IsChosen, right_first}
 pub use Rattle.blaze_table.specs.Complement.{absent, IsComplement}
 pub use Rattle.blaze_table.specs.Count.{mapped_keys, keys_in}
 pub use Rattle.blaze_table.specs.Counted.{CountedEntries, uncounted}
-pub use Rattle.blaze_table.specs.Cut.{cut_range_at, IsRangeCut, IsAmongOthers, IsLastCut, IsFirstCut}
+pub use Rattle.blaze_table.specs.Cut.{cut_range_at, IsRangeCut, IsAmongOthers, IsLastKeyRemoved, IsFirstKeyRemoved}
 pub use Rattle.blaze_table.specs.Ending.{ending_from, overlapping}
 pub use Rattle.blaze_table.specs.Entries.{Entry, at, entry, SameOption, holds, SameEntries, entry_at, shown_entry, shown_list, SameContent, shown_range_entry}
 pub use Rattle.blaze_table.specs.Equality.{same_entries}

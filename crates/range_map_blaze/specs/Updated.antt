@@ -4,7 +4,7 @@ use Rattle.std.specs.Fn.{Mut}
 use Rattle.std.specs.List.{Contains}
 use Rattle.std.specs.Option.{option_eq}
 use Rattle.std.specs.Prelude.{◌≡◌, ◌⊎◌, ℤ, pos, ◌+ℤ◌, ◌<ℤ◌, int_le, if◌then◌else◌, Bool, List, map, Option, Some, None, Result, Ok}
-use Rattle.blaze_streams.specs.Answers.{values, answered, AnswersInTurn, IsCallableAtEachValue}
+use Rattle.blaze_streams.specs.Answers.{values, entries_with_results, AnswersInTurn, IsCallableAtEachValue}
 use Rattle.blaze_streams.specs.Fills.{IsFilledWithNone}
 use Rattle.blaze_table.specs.Canonical.{IsRangeMap, HasEnd}
 use Rattle.blaze_table.specs.Entries.{Entry, at, SameEntries, SameOption}
@@ -44,7 +44,7 @@ module _ {F A V : Type 0} (shows : A → Option V) (g : Mut F A (Result (Option 
     pub are_pieces : IsFilledWithNone eq l h entries pieces
     pub results : List (Option V)
     pub in_turn : AnswersInTurn shows g f (values pieces) (map Ok results)
-    pub answers_are : answers ≡ answered pieces results
+    pub answers_are : answers ≡ entries_with_results pieces results
 
   module _ (low high l h : ℤ) (f : F) (old new : List (Entry V)) where
     -- Each piece has the result of the function there, and the other entries are kept. If every result equals the old value,

@@ -5,9 +5,9 @@ ghost use Rattle.blaze_int.specs.Bounds.{start_rank, end_rank};
 ghost use Rattle.blaze_table.specs.Canonical.{IsRangeMap};
 ghost use Rattle.blaze_table.specs.Count.{keys_in};
 ghost use Rattle.blaze_table.specs.Counted.{uncounted};
-ghost use Rattle.blaze_table.specs.Cut.{IsCut, IsRangeCut, IsSplit, IsAmongOthers, GoesOnAbove};
+ghost use Rattle.blaze_table.specs.Cut.{IsKeyRemoved, IsRangeCut, IsSplit, IsAmongOthers, GoesOnAbove};
 ghost use Rattle.blaze_table.specs.Entries.{entry, at, SameOption};
-ghost use Rattle.blaze_table.specs.Filled.{IsFilled, IsHeldFrom};
+ghost use Rattle.blaze_table.specs.Filled.{IsFilled, IsMappedFrom};
 ghost use Rattle.blaze_table.specs.Painted.{IsPainted, IsInside, ClonesAreAlike};
 ghost use Rattle.blaze_table.specs.Retain.{AnswersAt, IsCallableAtEach, IsCallableAtPairs, IsKeyRetained};
 ghost use Rattle.blaze_table.specs.Work.{IsCounted, IsRefused, IsCountedPaint, IsCountedCut};
@@ -120,7 +120,7 @@ impl<T: Integer, V: Eq + Clone> RangeMapBlaze<T, V> {
             (R.start_bound range)
             → (result ≡ Ok false) × (self.new ≡ self.old) }
         ensures held { R.has_bounds range
-            → IsHeldFrom (at self.old.entries) (start_rank T.rank T.low (R.start_bound range))
+            → IsMappedFrom (at self.old.entries) (start_rank T.rank T.low (R.start_bound range))
             (end_rank T.rank T.high (R.end_bound range))
             → (result ≡ Ok false) × (self.new.entries ≡ self.old.entries) }
         ensures counted { IsCounted self.old self.new }
@@ -144,7 +144,7 @@ impl<T: Integer, V: Eq + Clone> RangeMapBlaze<T, V> {
         requires { ClonesAreAlike V.is_clone V.eq }
         ensures counted { OnOk result (IsCountedCut self.old self.new) }
         ensures ok { OnOk result
-            (IsCut V.eq T.low T.high (T.rank key) self.old.entries self.new.entries) }
+            (IsKeyRemoved V.eq T.low T.high (T.rank key) self.old.entries self.new.entries) }
         ensures value { IfOk result
             (λ value. SameOption V.eq (at self.old.entries (T.rank key)) value) }
         ensures none { at self.old.entries (T.rank key) ≡ None → (result ≡ Ok None)

@@ -11,8 +11,8 @@ ghost use Rattle.range_map_blaze.specs.Made.{IsMade};
 use crate::map::RangeMapBlaze;
 use blaze_int::Integer;
 use blaze_streams::{
-    Asks, Both, CanonMapIter, Either, JoinKind, Owned, RangeValuesIter, SeekingRangeValuesIter,
-    SortedDisjointMap, ValueCarrier, Whole, WithLeft, join_of,
+    Asks, Both, CanonMapIter, Either, JoinKind, OnLeft, Owned, RangeValuesIter,
+    SeekingRangeValuesIter, SortedDisjointMap, ValueCarrier, Whole, join_of,
 };
 use blaze_table::{RangeTable, push_entry};
 use std::alloc::{AllocError, Global};
@@ -193,7 +193,7 @@ impl<T: Integer, V: Eq + Clone> RangeMapBlaze<T, V> {
         ensures { IfOk result (IsMade (IsJoined (with_left (λ v. v.now) (λ v. v.now)) F.FnMut V.eq
             V2.eq T.low T.high Left W.eq f self.now.entries other.now.entries)) }
     {
-        joined::<T, V, V2, W, F, WithLeft>(
+        joined::<T, V, V2, W, F, OnLeft>(
             self.allocator(),
             &self.table,
             &other.table,

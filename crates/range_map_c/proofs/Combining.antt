@@ -13,7 +13,7 @@ use Rattle.std.specs.List.{FoldsTo, zip}
 use Rattle.std.specs.Option.{option_eq}
 use Rattle.blaze_table.specs.Entries.{Entry, entry, at, SameEntries, SameOption}
 use Rattle.blaze_table.proofs.Paints.Painted.{entries_themselves}
-use Rattle.blaze_streams.specs.Answers.{values, answered, AnswersAtValue}
+use Rattle.blaze_streams.specs.Answers.{values, entries_with_results, AnswersAtValue}
 use Rattle.range_map_blaze.specs.UpdateLaws.{changed, AreGivenBy}
 use Rattle.range_map_blaze.specs.Updated.{AreAnswersAtPieces, IsPartUpdated, IsUpdated}
 use Rattle.range_map_blaze.proofs.Edits.ByKeys.{updating_is_by_keys, part_updating_is_by_keys}
@@ -29,7 +29,7 @@ module _ {F A : Type 0} (shows : A → Option ℕ) (g : Mut F A (Result (Option 
   same_ok r s e = cc
 
   given_in_turn : (pieces : List (Entry (Option ℕ))) (results : List (Option ℕ)) (last : F) → length (map ok results) ≡ length (values pieces)
-      → FoldsTo (λ j c k. AnswersAtValue shows g j c.0 c.1 k) f (zip (values pieces) (map Ok results)) last → answered pieces results ≡ map (λ p. entry p.lo p.hi (change p.value)) pieces
+      → FoldsTo (λ j c k. AnswersAtValue shows g j c.0 c.1 k) f (zip (values pieces) (map Ok results)) last → entries_with_results pieces results ≡ map (λ p. entry p.lo p.hi (change p.value)) pieces
   given_in_turn [] results last n t = refl
   given_in_turn (p ∷ pieces) [] last n t = absurd (omega (arith, n))
   given_in_turn (p ∷ pieces) (r ∷ results) last n t =
@@ -37,7 +37,7 @@ module _ {F A : Type 0} (shows : A → Option ℕ) (g : Mut F A (Result (Option 
       let said = says step.arguments (Ok r) t.0 step.called in
       let head : r ≡ change p.value = same_ok r (change p.value) (said.0 ∙ ap (λ v. ok (change v)) step.shown) in
       let rest = subst (λ j. FoldsTo (λ j c k. AnswersAtValue shows g j c.0 c.1 k) j (zip (values pieces) (map Ok results)) last) said.1 t.2 in
-      ap (λ v. entry p.lo p.hi v ∷ answered pieces results) head ∙ ap (λ es. entry p.lo p.hi (change p.value) ∷ es) (given_in_turn pieces results last (omega (arith, n)) rest)
+      ap (λ v. entry p.lo p.hi v ∷ entries_with_results pieces results) head ∙ ap (λ es. entry p.lo p.hi (change p.value) ∷ es) (given_in_turn pieces results last (omega (arith, n)) rest)
 
   module _ (l h : ℤ) (old : List (Entry ℕ)) where
     given_by : (answers : List (Entry (Option ℕ))) (a : AreAnswersAtPieces shows g nat_eq l h f old answers) → answers ≡ map (λ p. entry p.lo p.hi (change p.value)) a.pieces
@@ -83,11 +83,11 @@ module _ (low high l h : ℤ) (change : Option ℕ → Option ℕ) (old new : Li
   under k u = ap (λ b. cond (b && int_le k h) (change (at old k)) (at old k)) (le_false l k u)
 
   over : (k : ℤ) → h <ℤ k → changed l h change (at old) k ≡ at old k
-  over k u = ap (λ b. cond (int_le l k && b) (change (at old k)) (at old k)) (le_false k h u) ∙ never (int_le l k)
+  over k u = ap (λ b. cond (int_le l k && b) (change (at old k)) (at old k)) (le_false k h u) ∙ never_equal (int_le l k)
     where
-      never : (b : Bool) → cond (b && false) (change (at old k)) (at old k) ≡ at old k
-      never true = refl
-      never false = refl
+      never_equal : (b : Bool) → cond (b && false) (change (at old k)) (at old k) ≡ at old k
+      never_equal true = refl
+      never_equal false = refl
 
   kept : new ≡ old → (k : ℤ) (o : Option ℕ) → o ≡ at old k → SameOption nat_eq (at new k) o
   kept e k o is = same_along nat_eq (ap (λ es. at es k) (sym e)) (sym is) (same_itself nat_eq nat_eq_equiv (at old k))

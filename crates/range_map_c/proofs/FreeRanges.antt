@@ -9,7 +9,7 @@ use Rattle.blaze_entries.specs.Starts.{up_to}
 use Rattle.blaze_table.specs.Canonical.{IsCanonical}
 use Rattle.blaze_table.specs.Ending.{ending_from, overlapping}
 use Rattle.blaze_table.specs.Entries.{Entry, at, holds}
-use Rattle.blaze_table.specs.Filled.{IsHeldFrom}
+use Rattle.blaze_table.specs.Filled.{IsMappedFrom}
 use Rattle.blaze_table.proofs.Canonical.Lookup.{at_in, at_under, at_over, at_append}
 use Rattle.range_map_c.specs.Gaps.{IsFreeRange, HasNoFreeRange, IsFirstFreeRange, IsLastFreeRange}
 
@@ -292,7 +292,7 @@ searched_none eq es a b n canon some order = record {
 
 -- no key is free just where each has a value
 pub held_by : {V : Type 0} (c : ℤ → Option V) (a b : ℤ) (all : Bool) (o : Option ℤ) → is_some o ≡ not all → MatchOption o (HasNoFreeRange c a b 1) (λ first. IsFirstFreeRange c a b 1 first)
-    → IsTrue all ↔ IsHeldFrom c a b
+    → IsTrue all ↔ IsMappedFrom c a b
 held_by c a b true None e none = (λ _ k l h. some_or (c k) (λ is. none k (record { some = omega arith; from = l; to = omega (arith, ints); clear = λ j u w. let same : k ≡ j = omega (arith, ints) in subst (λ i. c i ≡ None) same is })), λ _. refl)
   where
     some_or : {X : Type 0} (o : Option X) → (o ≡ None → ⊥) → IsSome o

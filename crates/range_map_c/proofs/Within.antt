@@ -5,7 +5,7 @@ use Rattle.std.specs.Int.{int_max, int_min}
 use Rattle.std.specs.List.{last_or}
 use Rattle.std.proofs.Common.{◌≡◌, ℕ, ◌+◌, ℤ, pos, ◌+ℤ◌, ◌-ℤ◌, ◌≤ℤ◌, ◌<ℤ◌, Bool, true, false, cond, List, [], ◌∷◌, Some, None, IsSome, refl, ◌∙◌, sym, ap, subst, arith}
 use Rattle.std.proofs.lemmas.Int.{ints, by_lt_z}
-use Rattle.blaze_entries.specs.Overlap.{covered, overlap, shared}
+use Rattle.blaze_entries.specs.Overlap.{covered_keys, overlap, shared_count}
 use Rattle.blaze_entries.specs.Starts.{last_below, up_to}
 use Rattle.blaze_table.specs.Canonical.{AreKeys, IsCanonical}
 use Rattle.blaze_table.specs.Count.{keys_in}
@@ -73,12 +73,12 @@ module _ {V : Type 0} where
   overlap_under : (l h : ℤ) (e : Entry V) → h <ℤ e.lo → overlap l h e ≡ pos 0
   overlap_under l h e u = grind (arith, ints)
 
-  covered_ending : (l h : ℤ) (es : List (Entry V)) → covered l h es ≡ covered l h (ending_from l es)
+  covered_ending : (l h : ℤ) (es : List (Entry V)) → covered_keys l h es ≡ covered_keys l h (ending_from l es)
   covered_ending l h [] = refl
   covered_ending l h (e ∷ es) = by_bool (int_le l e.hi) (λ t. rw t (ap (λ n. overlap l h e +ℤ n) (covered_ending l h es)))
       (λ t. rw t (let none : overlap l h e ≡ pos 0 = overlap_none l h e (grind (arith, ints)) in let more = covered_ending l h es in omega (arith, ints)))
 
-  covered_up_to : (l h : ℤ) (es : List (Entry V)) → covered l h es ≡ covered l h (up_to h es)
+  covered_up_to : (l h : ℤ) (es : List (Entry V)) → covered_keys l h es ≡ covered_keys l h (up_to h es)
   covered_up_to l h [] = refl
   covered_up_to l h (e ∷ es) = by_bool (int_le e.lo h) (λ t. rw t (ap (λ n. overlap l h e +ℤ n) (covered_up_to l h es)))
       (λ t. rw t (let none : overlap l h e ≡ pos 0 = overlap_under l h e (grind (arith, ints)) in let more = covered_up_to l h es in omega (arith, ints)))
@@ -87,30 +87,30 @@ module _ {V : Type 0} where
   overlap_empty : (l h : ℤ) (e : Entry V) → h <ℤ l → overlap l h e ≡ pos 0
   overlap_empty l h e u = grind (arith, ints)
 
-  pub covered_empty : (l h : ℤ) (es : List (Entry V)) → h <ℤ l → covered l h es ≡ pos 0
+  pub covered_empty : (l h : ℤ) (es : List (Entry V)) → h <ℤ l → covered_keys l h es ≡ pos 0
   covered_empty l h [] u = refl
   covered_empty l h (e ∷ es) u = let none = overlap_empty l h e u in let more = covered_empty l h es u in omega (arith, ints)
 
   -- the entries that share no key with the range add none
-  pub covered_overlapping : (l h : ℤ) (es : List (Entry V)) → covered l h es ≡ covered l h (overlapping l h es)
+  pub covered_overlapping : (l h : ℤ) (es : List (Entry V)) → covered_keys l h es ≡ covered_keys l h (overlapping l h es)
   covered_overlapping l h es = covered_ending l h es ∙ covered_up_to l h (ending_from l es)
 
-  pub covered_some : (l h : ℤ) (es : List (Entry V)) → pos 0 ≤ℤ covered l h es
+  pub covered_some : (l h : ℤ) (es : List (Entry V)) → pos 0 ≤ℤ covered_keys l h es
   covered_some l h [] = omega (arith, ints)
   covered_some l h (e ∷ es) = let here : pos 0 ≤ℤ overlap l h e = length_or (int_max l e.lo) (int_min h e.hi) in let more = covered_some l h es in omega (arith, ints)
 
-  covered_most : (eq : V → V → Bool) (l h : ℤ) (es : List (Entry V)) → IsCanonical eq es → covered l h es ≤ℤ keys_in es
+  covered_most : (eq : V → V → Bool) (l h : ℤ) (es : List (Entry V)) → IsCanonical eq es → covered_keys l h es ≤ℤ keys_in es
   covered_most eq l h [] c = omega (arith, ints)
   covered_most eq l h (e ∷ es) c = let here = overlap_most l h e c.0 in let more = covered_most eq l h es c.2 in omega (arith, ints)
 
   -- they are at most all keys
-  pub covered_fits : (eq : V → V → Bool) (low high l h : ℤ) (es : List (Entry V)) → low ≤ℤ high → IsCanonical eq es → AreKeys low high es → covered l h es ≤ℤ ((high -ℤ low) +ℤ pos 1)
+  pub covered_fits : (eq : V → V → Bool) (low high l h : ℤ) (es : List (Entry V)) → low ≤ℤ high → IsCanonical eq es → AreKeys low high es → covered_keys l h es ≤ℤ ((high -ℤ low) +ℤ pos 1)
   covered_fits eq low high l h es order c a = let here = covered_most eq l h es c in let more = keys_among eq low high es order c a in omega (arith, ints)
 
 -- one more entry is counted
-pub counted_next : {V : Type 0} (l h x y : ℤ) (count n : ℕ) (left rest all : List (Entry V)) (e : Entry V) → pos count +ℤ covered l h left ≡ covered l h all → left ≡ e ∷ rest → e.lo ≡ x → e.hi ≡ y
-    → pos n ≡ shared l h x y → pos (count + n) +ℤ covered l h rest ≡ covered l h all
+pub counted_next : {V : Type 0} (l h x y : ℤ) (count n : ℕ) (left rest all : List (Entry V)) (e : Entry V) → pos count +ℤ covered_keys l h left ≡ covered_keys l h all → left ≡ e ∷ rest → e.lo ≡ x → e.hi ≡ y
+    → pos n ≡ shared_count l h x y → pos (count + n) +ℤ covered_keys l h rest ≡ covered_keys l h all
 counted_next l h x y count n left rest all e sum is low high keys =
-    let parts : pos count +ℤ (overlap l h e +ℤ covered l h rest) ≡ covered l h all = subst (λ es. pos count +ℤ covered l h es ≡ covered l h all) is sum in
-    let here : pos n ≡ overlap l h e = keys ∙ ap (λ z. shared l h z y) (sym low) ∙ ap (λ z. shared l h e.lo z) (sym high) in
+    let parts : pos count +ℤ (overlap l h e +ℤ covered_keys l h rest) ≡ covered_keys l h all = subst (λ es. pos count +ℤ covered_keys l h es ≡ covered_keys l h all) is sum in
+    let here : pos n ≡ overlap l h e = keys ∙ ap (λ z. shared_count l h z y) (sym low) ∙ ap (λ z. shared_count l h e.lo z) (sym high) in
     omega (arith, ints)

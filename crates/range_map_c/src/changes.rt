@@ -3,8 +3,8 @@ ghost use Rattle.std.specs.Prelude.{◌≡◌, ◌↔◌, ◌<ℤ◌, pos, Some,
 ghost use Rattle.std.specs.Prelude.{nat_eq};
 ghost use Rattle.blaze_entries.specs.Entries.{entry, at};
 ghost use Rattle.blaze_table.specs.Count.{keys_in};
-ghost use Rattle.blaze_table.specs.Cut.{IsCut, IsRangeCut, IsAmongOthers, GoesOnAbove};
-ghost use Rattle.blaze_table.specs.Filled.{IsFilled, IsHeldFrom};
+ghost use Rattle.blaze_table.specs.Cut.{IsKeyRemoved, IsRangeCut, IsAmongOthers, GoesOnAbove};
+ghost use Rattle.blaze_table.specs.Filled.{IsFilled, IsMappedFrom};
 ghost use Rattle.blaze_table.specs.Painted.{IsPainted, IsInside};
 ghost use Rattle.range_map_c.specs.Handle.{least_key, greatest_key};
 ghost use Rattle.range_map_c.specs.Status.{IsStatus, OnDone, OnRefused};
@@ -73,7 +73,7 @@ pub extern "C" fn range_map_fill_unchecked(
         map.old.entries map.new.entries) }
     ensures changed { OnDone result (IsTrue changed.new ↔ (¬ (keys_in map.new.entries
         ≡ keys_in map.old.entries))) }
-    ensures held { IsHeldFrom (at map.old.entries) lo hi
+    ensures held { IsMappedFrom (at map.old.entries) lo hi
         → (result ≡ pos 0) × (map.new.entries ≡ map.old.entries) }
     ensures err { OnRefused result (map.new.entries ≡ map.old.entries) }
 {
@@ -174,7 +174,7 @@ pub extern "C" fn range_map_remove_unchecked(
     old: &mut u64,
 ) -> i32
     ensures status { IsStatus result }
-    ensures ok { OnDone result (IsCut nat_eq least_key greatest_key key map.old.entries
+    ensures ok { OnDone result (IsKeyRemoved nat_eq least_key greatest_key key map.old.entries
         map.new.entries) }
     ensures old { OnDone result (told had.new old.new ≡ at map.old.entries key) }
     ensures refused { OnRefused result (IsAmongOthers key map.old.entries) }

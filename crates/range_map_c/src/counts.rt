@@ -1,6 +1,6 @@
 //! How many keys have a value, and how many entries there are. None of the calls allocates.
 ghost use Rattle.std.specs.Prelude.{◌≡◌, ◌↔◌, ◌+◌, ◌*◌, ◌^◌, [], length, pos, IsTrue};
-ghost use Rattle.blaze_entries.specs.Overlap.{covered};
+ghost use Rattle.blaze_entries.specs.Overlap.{covered_keys};
 ghost use Rattle.blaze_table.specs.Count.{keys_in};
 
 use crate::handle::RangeMap;
@@ -44,7 +44,7 @@ pub extern "C" fn range_map_count_within_unchecked(
     low: &mut u64,
     high: &mut u64,
 )
-    ensures count { pos (low.new + 2 ^ 64 * high.new) ≡ covered lo hi map.old.entries }
+    ensures count { pos (low.new + 2 ^ 64 * high.new) ≡ covered_keys lo hi map.old.entries }
     ensures kept { map.new.entries ≡ map.old.entries }
     ensures same { map.new.at ≡ map.old.at }
 {
@@ -57,7 +57,7 @@ pub extern "C" fn range_map_count_within_unchecked(
 
 // How many keys from `lo` to `hi` have a value.
 fn count_within(map: &RangeMapBlaze<i64, u64>, lo: i64, hi: i64) -> u128
-    ensures { pos result ≡ covered lo hi map.now.entries }
+    ensures { pos result ≡ covered_keys lo hi map.now.entries }
 {
     if hi < lo {
         return 0;

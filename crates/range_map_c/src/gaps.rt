@@ -1,7 +1,7 @@
 //! Whether the keys of a range have values, the first and the last free range of some length, and a fill of a free range.
 ghost use Rattle.std.specs.Prelude.{◌≡◌, ◌↔◌, ◌<◌, ◌≤ℤ◌, ◌<ℤ◌, ◌+ℤ◌, pos, MatchOption, IsTrue, MatchBool, nat_eq};
 ghost use Rattle.blaze_entries.specs.Entries.{entry, at};
-ghost use Rattle.blaze_table.specs.Filled.{IsHeldFrom};
+ghost use Rattle.blaze_table.specs.Filled.{IsMappedFrom};
 ghost use Rattle.blaze_table.specs.Gap.{IsClearFrom};
 ghost use Rattle.blaze_table.specs.Painted.{IsPainted};
 ghost use Rattle.range_map_c.specs.Gaps.{HasKeyFrom, HasNoFreeRange, IsFirstFreeRange, IsLastFreeRange};
@@ -52,7 +52,7 @@ pub extern "C" fn range_map_all_unchecked(
     lo: i64,
     hi: i64,
 ) -> bool
-    ensures all { IsTrue result ↔ IsHeldFrom (at map.old.entries) lo hi }
+    ensures all { IsTrue result ↔ IsMappedFrom (at map.old.entries) lo hi }
     ensures kept { map.new.entries ≡ map.old.entries }
     ensures same { map.new.at ≡ map.old.at }
 {

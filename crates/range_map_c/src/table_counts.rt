@@ -1,7 +1,7 @@
 //! The number of keys in a range that have a value in a table.
 ghost use Rattle.std.specs.Prelude.{◌≡◌, ◌+◌, ◌*◌, ◌^◌, ◌≤◌, length, pos};
 ghost use Rattle.range_map_c.specs.Ordered.{AreOrdered};
-ghost use Rattle.blaze_entries.specs.Overlap.{covered, shared};
+ghost use Rattle.blaze_entries.specs.Overlap.{covered_keys, shared_count};
 ghost use Rattle.range_map_c.specs.Tables.{rows};
 
 use crate::counts::WORD;
@@ -25,7 +25,7 @@ pub extern "C" fn range_table_count_within_unchecked(
     requires values { length value.now ≡ length lo.now }
     requires ordered { AreOrdered (rows lo.now hi.now value.now) }
     ensures count { pos (low.new + 2 ^ 64 * high.new)
-        ≡ covered first last (rows lo.now hi.now value.now) }
+        ≡ covered_keys first last (rows lo.now hi.now value.now) }
 {
     let mut count = 0;
     let mut row = first_ending_from(lo, hi, first);
@@ -39,7 +39,7 @@ pub extern "C" fn range_table_count_within_unchecked(
 
 // Returns how many keys lie both from `first` to `last` and from `start` to `end`.
 pub fn shared_keys(first: i64, last: i64, start: i64, end: i64) -> u128
-    ensures keys { pos result ≡ shared first last start end }
+    ensures keys { pos result ≡ shared_count first last start end }
     ensures bound { result ≤ 2 ^ 64 }
 {
     let from = first.max(start);

@@ -52,7 +52,7 @@ pub use Rattle.blaze_table.proofs.Pairs.PairLaws.{pairs_are_content}
 pub use Rattle.blaze_table.proofs.Sweeping.Canonicals.{few_painted}
 pub use Rattle.blaze_table.proofs.Walks.Worked.{counted_none, counted_then}
 pub use Rattle.blaze_table.specs.Canonical.{IsRunStart, IsRunEnd, IsRangeMap, IsOnePerRun, IsDisjoint, IsAscending, IsClear, HasStart, HasEnd, AreKeys}
-pub use Rattle.blaze_table.specs.CanonicalOf.{keyed}
+pub use Rattle.blaze_table.specs.CanonicalOf.{keyed_count}
 pub use Rattle.blaze_table.specs.Chosen.{right_first, IsChosen, left_with_right, left_alone}
 pub use Rattle.blaze_table.specs.Complement.{absent, IsComplement}
 pub use Rattle.blaze_table.specs.Count.{mapped_keys, keys_in}
@@ -70,14 +70,14 @@ pub use Rattle.range_map_blaze.proofs.Paints.PaintedOver.{last_is_first, painted
 pub use Rattle.range_map_blaze.specs.Order.{ranked_pairs, map_cmp}
 pub use Rattle.range_map_blaze.specs.OrderLaws.{map_cmp_total}
 pub use Rattle.range_map_blaze.specs.Pairs.{PopsFirst, PopsLast}
-pub use Rattle.range_map_cli.specs.Commands.{At, Len, is_word, Entries, Command, Blank, Get, command_of, command_of_words, range_of, insert_of, words_of, written_number, is_digits, asked}
+pub use Rattle.range_map_cli.specs.Commands.{At, Len, is_word, Entries, Command, Blank, Get, command_of, command_of_words, range_of, insert_of, words_of, written_number, is_digits, command_of_request}
 pub use Rattle.range_map_cli.specs.Edits.{answer_text, command_done}
 pub use Rattle.range_map_cli.specs.Fills.{fills_of, painted_and_filled, paints_of, ranges_in, IsPaintOrFill, PaintsAloneAreInOrder, StepsPaintAndFill}
 pub use Rattle.range_map_cli.specs.Laws.{points_of, AppendUndoesSplit, AreAllPainted, UnionIsPainting, EqualWhereGetsAre, IsOrderOfMaps, CountsAddUp, DisjointUnionCommutes, EmptyIsUnit, PartsHaveItsKeys, SetKeeps, UnionIsAssociative, UnionIsIdempotent, UniversalKeeps, XorWithItselfIsEmpty, AreRangesOrGapsFrom, CoverFrom, IsRangeOrGapAt, LookUpsCover, from_front, from_back, given_in_front, given_behind, AreNoneFromNone, EachOnce, TakeAll, Takes, AreItems, AreNoneFromEnd, EachOnceOwned, HasEnded, IsEachOnceOwned, IsItem, IsNotRefused, TakeAllOwned, TakesOwned}
 pub use Rattle.range_map_cli.specs.Lines.{ends_in, Lacks, lines_of}
 pub use Rattle.range_map_cli.specs.Output.{no_memory, Prints, commands_of, has_bad, Answers, error_line, IsOutput, with_command, bad_or, AnswersFirst, Closes, AreRead, Serves, Streams, Ends}
 pub use Rattle.range_map_cli.specs.Pieces.{IsSameFrom, IsGreatestPiece}
-pub use Rattle.range_map_cli.specs.Replies.{Content, greatest_key, least_key, line, Replies, word_or_dash, mapped_count, listed_entry, listed_entries, changed_text, content_after_command, nothing, Lists, piece_text}
+pub use Rattle.range_map_cli.specs.Replies.{Content, greatest_key, least_key, line, Replies, word_or_dash, mapped_count, listed_entry, listed_entries, changed_text, content_after_command, empty_content, Lists, piece_text}
 pub use Rattle.range_map_cli.specs.Sessions.{IsServing, Forwards, with_line, IsAt, content_after_commands, ClosesBefore}
 pub use Rattle.range_map_cli.specs.States.{content_of, HasWords}
 pub use Rattle.range_map_cli.specs.Steps.{answer, IsStepped, SameAnswer, Combines, IsEdit, content_after, after_all, answers, IsCountedRun, IsRefusedAt, IsSteppedAll, SameAnswers, first_mapped_key, last_mapped_key, pair_of, key_with_value, without_key, SamePair, complemented, IsWithout}

@@ -74,13 +74,13 @@ command_of [] = Some Blank
 command_of (b ∷ bs) = command_of_words (words_of (b ∷ bs))
 
 -- a request as a command: without the address of its word
-abbrev pub asked : Request → Command
-asked requests.Blank = Blank
-asked (requests.Paint lo hi word) = Paint lo hi word.now
-asked (requests.Fill lo hi word) = Fill lo hi word.now
-asked (requests.Insert key word) = Insert key word.now
-asked (requests.Remove key) = Remove key
-asked (requests.Get key) = Get key
-asked (requests.At key) = At key
-asked requests.Len = Len
-asked requests.Entries = Entries
+abbrev pub command_of_request : Request → Command
+command_of_request requests.Blank = Blank
+command_of_request (requests.Paint lo hi word) = Paint lo hi word.now
+command_of_request (requests.Fill lo hi word) = Fill lo hi word.now
+command_of_request (requests.Insert key word) = Insert key word.now
+command_of_request (requests.Remove key) = Remove key
+command_of_request (requests.Get key) = Get key
+command_of_request (requests.At key) = At key
+command_of_request requests.Len = Len
+command_of_request requests.Entries = Entries

@@ -1,7 +1,7 @@
 -- Paints and fills in any order: the content after them, and the number of entries.
 use Rattle.std.specs.Prelude.{◌≡◌, ℕ, ◌+◌, ℤ, List, [], ◌∷◌, All, Option}
 use Rattle.std.specs.Option.{option_or}
-use Rattle.blaze_table.specs.CanonicalOf.{keyed}
+use Rattle.blaze_table.specs.CanonicalOf.{keyed_count}
 use Rattle.blaze_table.specs.Entries.{Entry, entry, at}
 use Rattle.blaze_table.specs.Painted.{last_at, painted_in_order}
 use Rattle.range_map_cli.specs.Steps.{after_all}
@@ -37,7 +37,7 @@ module _ {T V L : Type 0} (rank : T → ℤ) where
 
   -- how many of these ranges have a key
   abbrev pub ranges_in : List (Step T V L) → ℕ
-  ranges_in steps = keyed (paints_of steps) + keyed (fills_of steps)
+  ranges_in steps = keyed_count (paints_of steps) + keyed_count (fills_of steps)
 
 -- ---- laws
 

@@ -17,6 +17,6 @@ abbrev pub Lacks : ℕ → List ℕ → Type 0
 Lacks byte text = All (λ b. (b == byte) ≡ false) text
 
 -- the parts of the text before and after the first such byte, or none where it has no such byte
-abbrev pub IsCutAtByte : ℕ → List ℕ → Option (Bor (List ℕ) × Bor (List ℕ)) → Type 0
-IsCutAtByte byte text None = Lacks byte text
-IsCutAtByte byte text (Some parts) = Lacks byte parts.0.now × (text ≡ parts.0.now ++ byte ∷ parts.1.now)
+abbrev pub IsLineSplit : ℕ → List ℕ → Option (Bor (List ℕ) × Bor (List ℕ)) → Type 0
+IsLineSplit byte text None = Lacks byte text
+IsLineSplit byte text (Some parts) = Lacks byte parts.0.now × (text ≡ parts.0.now ++ byte ∷ parts.1.now)

@@ -3,7 +3,7 @@ use Rattle.std.specs.Prelude.{◌≡◌, ℕ, ◌+◌, ◌-◌, ◌≤◌, ◌�
 use Rattle.std.specs.Io.KnownBytes.{Appends, Consumes}
 use Rattle.range_map_cli.specs.Lines.{lines_of, ends_in}
 use Rattle.range_map_cli.specs.Commands.{Command, command_of}
-use Rattle.range_map_cli.specs.Replies.{Content, nothing, content_after_command, Replies, line}
+use Rattle.range_map_cli.specs.Replies.{Content, empty_content, content_after_command, Replies, line}
 use Rattle.range_map_cli.specs.declared.End.{End}
 use Rattle.range_map_cli.specs.declared.End.TheVariants as ends
 
@@ -39,11 +39,11 @@ error_line good = line (codes "error line " ++ decimal (min (good + 1) (2 ^ 64 -
 abbrev pub IsOutput : List ℕ → List ℕ → Type 0
 IsOutput text out =
     let commands = commands_of (lines_of text) in
-    (answers : List ℕ) × Answers nothing commands answers × (out ≡ answers ++ (if has_bad (lines_of text) then error_line (length commands) else []))
+    (answers : List ℕ) × Answers empty_content commands answers × (out ≡ answers ++ (if has_bad (lines_of text) then error_line (length commands) else []))
 
 -- the answers to the first n lines of a text, or to those before the first invalid one
 abbrev pub AnswersFirst : ℕ → List ℕ → List ℕ → Type 0
-AnswersFirst n text out = Answers nothing (take n (commands_of (lines_of text))) out
+AnswersFirst n text out = Answers empty_content (take n (commands_of (lines_of text))) out
 
 abbrev pub no_memory : List ℕ
 no_memory = line (codes "out of memory")

@@ -16,8 +16,8 @@ abbrev pub Content : Type 0
 Content = ℤ → Option (List ℕ)
 
 -- the content at the start
-abbrev pub nothing : Content
-nothing key = None
+abbrev pub empty_content : Content
+empty_content key = None
 
 -- keys are the i64: the least
 abbrev pub least_key : ℤ

@@ -3,7 +3,7 @@ use Rattle.std.specs.Prelude.{◌≡◌, ℕ, ◌+◌, ◌-◌, ◌≤◌, ◌^�
 use Rattle.std.specs.Io.KnownBytes.{Appends}
 use Rattle.range_map_cli.specs.Lines.{lines_of, ends_in, Lacks}
 use Rattle.range_map_cli.specs.Commands.{Command}
-use Rattle.range_map_cli.specs.Replies.{Content, nothing, content_after_command}
+use Rattle.range_map_cli.specs.Replies.{Content, empty_content, content_after_command}
 use Rattle.range_map_cli.specs.Output.{commands_of, has_bad, Answers, Closes}
 use Rattle.range_map_cli.specs.States.{content_of, HasWords}
 use Rattle.range_map_cli.specs.declared.session.Session.{Session}
@@ -34,10 +34,10 @@ pub record IsAt (held holds : Option (List ℕ)) (text : List ℕ) (session : Se
   pub answers : List ℕ
   pub asked : commands_of (lines_of text) ≡ commands ++ commands_of (lines_of (partial ++ rest))
   pub bad : has_bad (lines_of text) ≡ has_bad (lines_of (partial ++ rest))
-  pub answered : Answers nothing commands answers
+  pub answered : Answers empty_content commands answers
   pub forwards : Forwards held holds answers session.waiting.items
-  pub stored : (key : ℤ) → content_of session.map.entries key ≡ content_after_commands commands nothing key
-  pub words : HasWords (content_after_commands commands nothing)
+  pub stored : (key : ℤ) → content_of session.map.entries key ≡ content_after_commands commands empty_content key
+  pub words : HasWords (content_after_commands commands empty_content)
   pub counted : length commands + ends_in rest ≡ lines
   pub number : session.number ≡ min (length commands) (2 ^ 64 - 1)
   pub no_end : Lacks 10 partial

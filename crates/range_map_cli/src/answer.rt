@@ -2,7 +2,7 @@
 ghost use Rattle.std.specs.Prelude.{◌≡◌, ◌≢◌, ◌++◌, [], ℤ, IfSome, OnErr, OnOk, option_map};
 ghost use Rattle.std.specs.Prelude.{string_bytes};
 ghost use Rattle.std.specs.Option.{option_copied};
-ghost use Rattle.range_map_cli.specs.Commands.{asked, Blank};
+ghost use Rattle.range_map_cli.specs.Commands.{command_of_request, Blank};
 ghost use Rattle.range_map_cli.specs.Edits.{answer_text, command_done};
 ghost use Rattle.range_map_cli.specs.Pieces.{IsGreatestPiece};
 ghost use Rattle.range_map_cli.specs.Replies.{content_after_command, greatest_key, least_key};
@@ -77,10 +77,10 @@ pub fn answer(
     request: Request<'_>,
 ) -> Result<(), AllocError>
     ensures reply { OnOk result (HasWords (content_of map.old.entries)
-        → Replies (content_of map.old.entries) (asked request.entry) (string_bytes reply.new)) }
+        → Replies (content_of map.old.entries) (command_of_request request.entry) (string_bytes reply.new)) }
     ensures content { OnOk result ((key : ℤ) → content_of map.new.entries key
-        ≡ content_after_command (asked request.entry) (content_of map.old.entries) key) }
-    ensures refused { OnErr result (asked request.entry ≢ Blank) }
+        ≡ content_after_command (command_of_request request.entry) (content_of map.old.entries) key) }
+    ensures refused { OnErr result (command_of_request request.entry ≢ Blank) }
 {
     reply.clear();
     match request {

@@ -3,7 +3,7 @@ ghost use Rattle.std.specs.Prelude.{◌≡◌, ◌∷◌, [], ◌<◌, ◌^◌, 
 ghost use Rattle.std.specs.Str.Parse.{digits_value};
 ghost use Rattle.std.specs.List.{list_all};
 ghost use Rattle.std.specs.Char.{is_ascii_alphanumeric};
-ghost use Rattle.range_map_cli.specs.Commands.{asked, command_of, command_of_words, written_number};
+ghost use Rattle.range_map_cli.specs.Commands.{command_of_request, command_of, command_of_words, written_number};
 ghost use Rattle.range_map_cli.specs.Commands.{is_word, is_digits};
 
 use crate::split::split_once;
@@ -80,7 +80,7 @@ fn word(text: &[u8]) -> Option<&str>
 
 /// The request of a line of one word.
 fn read_one(name: &[u8]) -> Option<Request<'static>>
-    ensures { option_map asked result ≡ command_of_words (name.now ∷ []) }
+    ensures { option_map command_of_request result ≡ command_of_words (name.now ∷ []) }
 {
     if name == b"len".as_slice() {
         Some(Request::Len)
@@ -93,7 +93,7 @@ fn read_one(name: &[u8]) -> Option<Request<'static>>
 
 /// The request of a line of two words.
 fn read_two(name: &[u8], key: &[u8]) -> Option<Request<'static>>
-    ensures { option_map asked result ≡ command_of_words (name.now ∷ key.now ∷ []) }
+    ensures { option_map command_of_request result ≡ command_of_words (name.now ∷ key.now ∷ []) }
 {
     if name == b"get".as_slice() {
         Some(Request::Get(number(key)?))
@@ -108,7 +108,7 @@ fn read_two(name: &[u8], key: &[u8]) -> Option<Request<'static>>
 
 /// The request of a line of three words.
 fn read_three<'a>(name: &[u8], key: &[u8], value: &'a [u8]) -> Option<Request<'a>>
-    ensures { option_map asked result ≡ command_of_words (name.now ∷ key.now ∷ value.now ∷ []) }
+    ensures { option_map command_of_request result ≡ command_of_words (name.now ∷ key.now ∷ value.now ∷ []) }
 {
     if name == b"insert".as_slice() {
         let key = number(key)?;
@@ -120,7 +120,7 @@ fn read_three<'a>(name: &[u8], key: &[u8], value: &'a [u8]) -> Option<Request<'a
 
 /// The request of a line of four words.
 fn read_four<'a>(name: &[u8], lo: &[u8], hi: &[u8], value: &'a [u8]) -> Option<Request<'a>>
-    ensures { option_map asked result
+    ensures { option_map command_of_request result
         ≡ command_of_words (name.now ∷ lo.now ∷ hi.now ∷ value.now ∷ []) }
 {
     if name == b"paint".as_slice() {
@@ -138,7 +138,7 @@ fn read_four<'a>(name: &[u8], lo: &[u8], hi: &[u8], value: &'a [u8]) -> Option<R
 
 /// The request of a line, or `None` if it is invalid.
 pub fn read(line: &[u8]) -> Option<Request<'_>>
-    ensures { option_map asked result ≡ command_of line.now }
+    ensures { option_map command_of_request result ≡ command_of line.now }
 {
     if line.is_empty() {
         return Some(Request::Blank);

@@ -1,5 +1,5 @@
 -- What a closure answered so far at the segments of many lists, and one answer more.
-use Rattle.range_map_multi.proofs.Words.{◌≡◌, ℕ, suc, ◌<◌, ℤ, ◌≤ℤ◌, Bool, true, false, cond, List, [], ◌∷◌, length, Option, Some, None, refl, ◌∙◌, sym, ap, subst, arith, is_some, list_any, Mut, IsEquivalence, ints, Entry, entry, glue, at_in, canonical, one_per_run, AnswersAtValue, TakesValue, AllCanonical, first_keys, all_after, IsNextSegment, row, row_eq, IsAnsweredSoFar, answered_none, takes_next, answered_more, answered_all, next_less, all_lengths_left, all_canonical_after, is_first, IsJoinOfMany, IsCallableAtRows, IsManyJoined, AllPlaced, AllRangeMaps, picked}
+use Rattle.range_map_multi.proofs.Words.{◌≡◌, ℕ, suc, ◌<◌, ℤ, ◌≤ℤ◌, Bool, true, false, cond, List, [], ◌∷◌, length, Option, Some, None, refl, ◌∙◌, sym, ap, subst, arith, is_some, list_any, Mut, IsEquivalence, ints, Entry, entry, glue, at_in, canonical, one_per_run, AnswersAtValue, TakesValue, AllCanonical, first_keys, all_after, IsNextSegment, row, row_eq, IsAnsweredSoFar, answered_none, takes_next, answered_more, answered_all, next_less, all_lengths_left, all_canonical_after, is_first, IsJoinOfMany, IsCallableAtRows, IsManyJoined, AllPlaced, AllRangeMaps, values_at_positions}
 use Rattle.range_map_multi.proofs.Many.{row_length}
 use Rattle.range_map_multi.proofs.Placed.{alike, with_row, next_alike}
 use Rattle.range_map_multi.proofs.RowSegments.{entries_where, AreSegments, AllKeys, next_is, none_is, segments_exist, rows_equiv, asked_segments}
@@ -63,10 +63,10 @@ module _ {F X W V : Type 0} (shows : X → List (Option V)) (g : Mut F X W) (eqv
       others : (rest : List (Entry (List (Option V)))) × ((h.next ≡ with_row vss p ∷ rest) × AreSegments (all_after p.hi h.left) rest)
       others = next_is h.left (with_row vss p) h.next h.nexts next_left
 
-      here : asks (picked vss p.value) ≡ true → entries_where asks h.next ≡ with_row vss p ∷ entries_where asks others.0
+      here : asks (values_at_positions vss p.value) ≡ true → entries_where asks h.next ≡ with_row vss p ∷ entries_where asks others.0
       here t = ap (entries_where asks) others.1.0 ∙ ap (λ b. cond b (with_row vss p ∷ entries_where asks others.0) (entries_where asks others.0)) t
 
-      not_here : asks (picked vss p.value) ≡ false → entries_where asks h.next ≡ entries_where asks others.0
+      not_here : asks (values_at_positions vss p.value) ≡ false → entries_where asks h.next ≡ entries_where asks others.0
       not_here t = ap (entries_where asks) others.1.0 ∙ ap (λ b. cond b (with_row vss p ∷ entries_where asks others.0) (entries_where asks others.0)) t
 
       -- as many places as lists of values
@@ -74,7 +74,7 @@ module _ {F X W V : Type 0} (shows : X → List (Option V)) (g : Mut F X W) (eqv
       asked_count = ap length n.has ∙ row_length Ns p.lo ∙ sym (alike vss Ns h.left h.placed).count
 
       -- a list has something at the segment
-      pub asked_some : list_any is_some (picked vss p.value) ≡ true
+      pub asked_some : list_any is_some (values_at_positions vss p.value) ≡ true
       asked_some = (is_first eqv h.left (all_after p.hi h.left) (with_row vss p) h.canonical next_left).some
 
       pub asked_less : all_lengths_left Ns' < all_lengths_left Ns
@@ -85,11 +85,11 @@ module _ {F X W V : Type 0} (shows : X → List (Option V)) (g : Mut F X W) (eqv
           omega (arith, less, before, after)
 
       -- the closure may be called at the row of the segment
-      pub asked_takes : IsCallableAtRows shows g eqv low high asks f lists → asks (picked vss p.value) ≡ true → TakesValue shows g f' (picked vss p.value)
+      pub asked_takes : IsCallableAtRows shows g eqv low high asks f lists → asks (values_at_positions vss p.value) ≡ true → TakesValue shows g f' (values_at_positions vss p.value)
       asked_takes may t = takes_next shows g (row_eq eqv) eq low high f h.all (may.at h.all h.are) (entries_where asks h.next) (entries_where asks others.0) (with_row vss p) f' out h.so_far (here t)
 
       -- one answer more
-      pub asked_more : (laws : IsEquivalence eq) (f'' : F) (new : List (Entry W)) (w : W) → asks (picked vss p.value) ≡ true → AnswersAtValue shows g f' (picked vss p.value) w f'' → new ≡ glue eq out (entry p.lo p.hi w ∷ []) → IsAskedSoFar Ns' f'' new
+      pub asked_more : (laws : IsEquivalence eq) (f'' : F) (new : List (Entry W)) (w : W) → asks (values_at_positions vss p.value) ≡ true → AnswersAtValue shows g f' (values_at_positions vss p.value) w f'' → new ≡ glue eq out (entry p.lo p.hi w ∷ []) → IsAskedSoFar Ns' f'' new
       asked_more laws f'' new w t answer put = record {
         all = h.all;
         are = h.are;
@@ -102,7 +102,7 @@ module _ {F X W V : Type 0} (shows : X → List (Option V)) (g : Mut F X W) (eqv
       }
 
       -- a segment that the closure is not asked for
-      pub asked_not : asks (picked vss p.value) ≡ false → IsAskedSoFar Ns' f' out
+      pub asked_not : asks (values_at_positions vss p.value) ≡ false → IsAskedSoFar Ns' f' out
       asked_not t = record {
         all = h.all;
         are = h.are;

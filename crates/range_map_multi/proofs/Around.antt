@@ -25,15 +25,15 @@ module _ {V : Type 0} where
   with_more false x None = refl
   with_more b x (Some y) = refl
 
-  with_last : (b : Bool) (l y : Option V) → cond (b && (is_some y && true)) (right_first l (last_value (y ∷ []))) None ≡ cond b y None
-  with_last true l None = refl
-  with_last true l (Some y) = refl
-  with_last false l y = refl
+  part_with_last_values : (b : Bool) (l y : Option V) → cond (b && (is_some y && true)) (right_first l (last_value (y ∷ []))) None ≡ cond b y None
+  part_with_last_values true l None = refl
+  part_with_last_values true l (Some y) = refl
+  part_with_last_values false l y = refl
 
   all_last : (xs : List (Option V)) (y : Option V) → last_of_all (xs ++ y ∷ []) ≡ with_all y xs
   all_last xs y =
       ap (λ b. cond b (last_value (xs ++ y ∷ [])) None) (list_all-append is_some xs (y ∷ []))
-      ∙ ap (λ o. cond (list_all is_some xs && (is_some y && true)) o None) (last_append xs (y ∷ [])) ∙ with_last (list_all is_some xs) (last_value xs) y
+      ∙ ap (λ o. cond (list_all is_some xs && (is_some y && true)) o None) (last_append xs (y ∷ [])) ∙ part_with_last_values (list_all is_some xs) (last_value xs) y
 
   with_parts : (b : Bool) (x y : Option V) → left_with_right y (cond b x None) ≡ cond (is_some x && b) y None
   with_parts true None y = refl

@@ -1,5 +1,5 @@
 -- The joins of many maps, where there are two.
-use Rattle.range_map_multi.proofs.Words.{◌≡◌, ℤ, Bool, List, [], ◌∷◌, map, Option, Some, None, option_map, is_some, refl, ◌∙◌, sym, ap, subst, Mut, list_all, list_any, IsEquivalence, by_lt_z, same_itself, Entry, entry, at, SameOption, SameEntries, AreKeys, IsRangeMap, canonical_is_unique, canonical, one_per_run, JoinKind, Inner, Full, answered, IsJoined, as_row, paired, pair_eq, IsJoinOf, row_eq, as_list, at_rows, canonical_rows, pair_laws, below_all, above_all, asked_row, IsJoinOfMany, IsManyJoined, InnerJoinOfTwoIsInnerJoin, FullJoinOfTwoIsFullJoin}
+use Rattle.range_map_multi.proofs.Words.{◌≡◌, ℤ, Bool, List, [], ◌∷◌, map, Option, Some, None, option_map, is_some, refl, ◌∙◌, sym, ap, subst, Mut, list_all, list_any, IsEquivalence, by_lt_z, same_itself, Entry, entry, at, SameOption, SameEntries, AreKeys, IsRangeMap, canonical_is_unique, canonical, one_per_run, JoinKind, Inner, Full, entries_with_results, IsJoined, as_row, paired, pair_eq, IsJoinOf, row_eq, as_list, at_rows, canonical_rows, pair_laws, below_all, above_all, asked_row, IsJoinOfMany, IsManyJoined, InnerJoinOfTwoIsInnerJoin, FullJoinOfTwoIsFullJoin}
 use Rattle.range_map_multi.proofs.OfTwo.{one_list}
 use Rattle.range_map_multi.proofs.RowSegments.{rows_equiv}
 
@@ -25,13 +25,13 @@ module _ {V : Type 0} (eqv : V → V → Bool) (laws : IsEquivalence eqv) (low h
   }
 
   -- answers on the same ranges
-  same_answered : {W : Type 0} (ss : List (Entry (List (Option V)))) (ps : List (Entry (Option V × Option V))) (ws : List W) → SameEntries (row_eq eqv) ss (map as_row ps) → answered ss ws ≡ answered ps ws
+  same_answered : {W : Type 0} (ss : List (Entry (List (Option V)))) (ps : List (Entry (Option V × Option V))) (ws : List W) → SameEntries (row_eq eqv) ss (map as_row ps) → entries_with_results ss ws ≡ entries_with_results ps ws
   same_answered [] [] ws s = refl
   same_answered [] (p ∷ ps) ws s = absurd s
   same_answered (q ∷ ss) [] ws s = absurd s
   same_answered (q ∷ ss) (p ∷ ps) [] s = refl
   same_answered (q ∷ ss) (p ∷ ps) (w ∷ ws) s =
-      ap (λ l. entry l q.hi w ∷ answered ss ws) s.0 ∙ ap (λ h. entry p.lo h w ∷ answered ss ws) s.1 ∙ ap (λ l. entry p.lo p.hi w ∷ l) (same_answered ss ps ws s.3)
+      ap (λ l. entry l q.hi w ∷ entries_with_results ss ws) s.0 ∙ ap (λ h. entry p.lo h w ∷ entries_with_results ss ws) s.1 ∙ ap (λ l. entry p.lo p.hi w ∷ l) (same_answered ss ps ws s.3)
 
   module _ (kind : JoinKind) (asks : List (Option V) → Bool) (same : (x y : Option V) → option_map as_list (paired kind x y) ≡ asked_row asks (x ∷ y ∷ [])) (left right : List (Entry V)) where
     same_segments : (ss : List (Entry (List (Option V)))) (ps : List (Entry (Option V × Option V))) → IsJoinOfMany eqv low high asks (left ∷ right ∷ []) ss → IsJoinOf eqv eqv low high kind left right ps → SameEntries (row_eq eqv) ss (map as_row ps)
@@ -48,8 +48,8 @@ module _ {V : Type 0} (eqv : V → V → Bool) (laws : IsEquivalence eqv) (low h
     joins_alike : {F G X Y W : Type 0} (shows : X → List (Option V)) (g : Mut F X W) (shows' : Y → Option V × Option V) (g' : Mut G Y W) (eq : W → W → Bool) → IsEquivalence eq → (f : F) (f' : G) (many two : List (Entry W))
         → (m : IsManyJoined shows g eqv low high asks eq f (left ∷ right ∷ []) many) → (t : IsJoined shows' g' eqv eqv low high kind eq f' left right two) → m.answered.answers ≡ t.answered.answers → SameEntries eq many two
     joins_alike shows g shows' g' eq laws_w f f' many two m t e =
-        let is = same_answered m.segments t.segments m.answered.answers (same_segments m.segments t.segments m.are_segments t.are_segments) ∙ ap (answered t.segments) e in
-        one_list eq laws_w low high (at (answered t.segments t.answered.answers)) many two m.answered.range_map t.answered.range_map
+        let is = same_answered m.segments t.segments m.answered.answers (same_segments m.segments t.segments m.are_segments t.are_segments) ∙ ap (entries_with_results t.segments) e in
+        one_list eq laws_w low high (at (entries_with_results t.segments t.answered.answers)) many two m.answered.range_map t.answered.range_map
         (λ k. subst (SameOption eq (at many k)) (ap (λ l. at l k) is) (m.answered.content k)) t.answered.content
 
 module _ {F G X Y V W : Type 0} (shows : X → List (Option V)) (g : Mut F X W) (shows' : Y → Option V × Option V) (g' : Mut G Y W) (eqv : V → V → Bool) (laws_v : IsEquivalence eqv) (eq : W → W → Bool) (laws : IsEquivalence eq) (low high : ℤ) where

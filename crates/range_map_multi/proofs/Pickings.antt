@@ -1,12 +1,12 @@
 -- The rows of what is picked from lists.
-use Rattle.range_map_multi.proofs.Words.{◌≡◌, ℕ, ◌<◌, ℤ, Bool, true, false, nat_eq, List, [], ◌∷◌, length, map, Option, Some, None, is_some, refl, ◌∙◌, sym, ap, option_map, arith, slice_get, list_all, list_any, option_and_then, nil_from_length, slice_get-map, Entry, shown_option, row, shown_row, shown_full_row, AllPlaced, all_valued, picked}
+use Rattle.range_map_multi.proofs.Words.{◌≡◌, ℕ, ◌<◌, ℤ, Bool, true, false, nat_eq, List, [], ◌∷◌, length, map, Option, Some, None, is_some, refl, ◌∙◌, sym, ap, option_map, arith, slice_get, list_all, list_any, option_and_then, nil_from_length, slice_get-map, Entry, shown_option, row, shown_row, shown_full_row, AllPlaced, all_valued, values_at_positions}
 use Rattle.range_map_multi.proofs.Many.{row_length}
 use Rattle.range_map_multi.proofs.Placed.{alike}
 
 pub none_from_empty : {A : Type 0} (xs : List A) (b : Bool) → b ≡ nat_eq (length xs) 0 → b ≡ true → xs ≡ []
 none_from_empty xs b p q = nil_from_length xs (grind (arith, p, q))
 
-pub picked_none : {V : Type 0} (vss : List (List V)) → picked vss [] ≡ []
+pub picked_none : {V : Type 0} (vss : List (List V)) → values_at_positions vss [] ≡ []
 picked_none [] = refl
 picked_none (vs ∷ vss) = refl
 
@@ -24,11 +24,11 @@ module _ {A V : Type 0} (shown : A → V) where
       by_get (Some a) p = sym p
 
   -- what the values of a row are picked from
-  pub shown_picked : {B : Type 0} (items : B → List A) (lists : List B) (places : List (Option ℕ)) → shown_row shown (picked (map items lists) places) ≡ picked (map (λ v. map shown (items v)) lists) places
+  pub shown_picked : {B : Type 0} (items : B → List A) (lists : List B) (places : List (Option ℕ)) → shown_row shown (values_at_positions (map items lists) places) ≡ values_at_positions (map (λ v. map shown (items v)) lists) places
   shown_picked items [] places = refl
   shown_picked items (v ∷ vs) [] = refl
   shown_picked items (v ∷ vs) (place ∷ places) =
-      ap (λ o. o ∷ shown_row shown (picked (map items vs) places)) (shown_at (items v) place) ∙ ap (λ l. option_and_then (slice_get (map shown (items v))) place ∷ l) (shown_picked items vs places)
+      ap (λ o. o ∷ shown_row shown (values_at_positions (map items vs) places)) (shown_at (items v) place) ∙ ap (λ l. option_and_then (slice_get (map shown (items v))) place ∷ l) (shown_picked items vs places)
 
   pub full_is_row : (xs : List A) → shown_full_row shown xs ≡ shown_row shown (map Some xs)
   full_is_row [] = refl
@@ -45,17 +45,17 @@ module _ {A V : Type 0} (shown : A → V) where
 
 module _ {A V B : Type 0} (shown : A → V) (items : B → List A) (lists : List B) (places : List (Option ℕ)) where
   -- what the row that is picked shows
-  pub picked_shown : (found : List (Option A)) → found ≡ picked (map items lists) places → shown_row shown found ≡ picked (map (λ v. map shown (items v)) lists) places
+  pub picked_shown : (found : List (Option A)) → found ≡ values_at_positions (map items lists) places → shown_row shown found ≡ values_at_positions (map (λ v. map shown (items v)) lists) places
   picked_shown found p = ap (shown_row shown) p ∙ shown_picked shown items lists places
 
   -- and where all of it is there
-  pub picked_full : (full : List A) (found : List (Option A)) → map Some full ≡ found → found ≡ picked (map items lists) places → shown_full_row shown full ≡ picked (map (λ v. map shown (items v)) lists) places
+  pub picked_full : (full : List A) (found : List (Option A)) → map Some full ≡ found → found ≡ values_at_positions (map items lists) places → shown_full_row shown full ≡ values_at_positions (map (λ v. map shown (items v)) lists) places
   picked_full full found f p = full_is_row shown full ∙ ap (shown_row shown) f ∙ picked_shown found p
 
-  pub asked_full : (full : List A) (found : List (Option A)) → map Some full ≡ found → found ≡ picked (map items lists) places → list_all is_some (picked (map (λ v. map shown (items v)) lists) places) ≡ true
+  pub asked_full : (full : List A) (found : List (Option A)) → map Some full ≡ found → found ≡ values_at_positions (map items lists) places → list_all is_some (values_at_positions (map (λ v. map shown (items v)) lists) places) ≡ true
   asked_full full found f p = ap (list_all is_some) (sym (picked_full full found f p)) ∙ all_full shown full
 
-  pub asked_not_full : (found : List (Option A)) → list_all is_some found ≡ false → found ≡ picked (map items lists) places → list_all is_some (picked (map (λ v. map shown (items v)) lists) places) ≡ false
+  pub asked_not_full : (found : List (Option A)) → list_all is_some found ≡ false → found ≡ values_at_positions (map items lists) places → list_all is_some (values_at_positions (map (λ v. map shown (items v)) lists) places) ≡ false
   asked_not_full found f p = ap (list_all is_some) (sym (picked_shown found p)) ∙ all_shown shown found ∙ f
 
 -- a row that is full and not empty has something

@@ -1,5 +1,5 @@
 -- Lists that are gone through by the places of their ranges.
-use Rattle.range_map_multi.proofs.Words.{nat_of, ◌≡◌, ℕ, ◌+◌, ℤ, pos, ◌+ℤ◌, ◌-ℤ◌, Bool, true, false, not, cond, nat_eq, suc, List, [], ◌∷◌, ◌++◌, length, map, Option, Some, None, is_some, refl, ◌∙◌, sym, ap, option_map, append_assoc, append-nil, subst, arith, int_le, slice_get, option_and_then, IsEquivalence, nat_eq_equiv, length_push, map-map, next_differs, Entry, entry, at, holds, AreKeys, IsCanonical, IsRangeMap, after, canonical, one_per_run, values, first_key, steady_to, lesser, first_keys, all_steady_to, all_after, IsNextSegment, row, lengths_left, all_lengths_left, has_odd, with_values, in_places, HasPlacedValues, AllPlaced, with_valued_range, valued, all_valued, picked, AllRangeMaps}
+use Rattle.range_map_multi.proofs.Words.{nat_of, ◌≡◌, ℕ, ◌+◌, ℤ, pos, ◌+ℤ◌, ◌-ℤ◌, Bool, true, false, not, cond, nat_eq, suc, List, [], ◌∷◌, ◌++◌, length, map, Option, Some, None, is_some, refl, ◌∙◌, sym, ap, option_map, append_assoc, append-nil, subst, arith, int_le, slice_get, option_and_then, IsEquivalence, nat_eq_equiv, length_push, map-map, next_differs, Entry, entry, at, holds, AreKeys, IsCanonical, IsRangeMap, after, canonical, one_per_run, values, first_key, steady_to, lesser, first_keys, all_steady_to, all_after, IsNextSegment, row, lengths_left, all_lengths_left, has_odd, with_values, in_places, HasPlacedValues, AllPlaced, with_valued_range, ranges_with_values, all_valued, values_at_positions, AllRangeMaps}
 
 -- ---- other values on the same ranges
 
@@ -50,14 +50,14 @@ module _ {V : Type 0} where
   after_placed : (vs : List V) (N : List (Entry ℕ)) (L : List (Entry V)) (t : ℤ) → HasPlacedValues vs N L → HasPlacedValues vs (after t N) (after t L)
   after_placed vs N L t p = sym (after_with (slice_get vs) t N) ∙ ap (after t) p ∙ after_with Some t L
 
-  valued_placed : (vs : List V) (N : List (Entry ℕ)) (L : List (Entry V)) → HasPlacedValues vs N L → valued vs N ≡ L
+  valued_placed : (vs : List V) (N : List (Entry ℕ)) (L : List (Entry V)) → HasPlacedValues vs N L → ranges_with_values vs N ≡ L
   valued_placed vs [] [] p = refl
   valued_placed vs [] (e ∷ es) p = cc
   valued_placed vs (r ∷ rs) [] p = cc
   valued_placed vs (r ∷ rs) (e ∷ es) p =
       let first : entry r.lo r.hi (slice_get vs r.value) ≡ entry e.lo e.hi (Some e.value) = cc in
       let others : HasPlacedValues vs rs es = cc in
-      ap (λ o. with_valued_range r o (valued vs rs)) (ap (λ x. x.value) first)
+      ap (λ o. with_valued_range r o (ranges_with_values vs rs)) (ap (λ x. x.value) first)
       ∙ ap (λ l. entry r.lo r.hi e.value ∷ l) (valued_placed vs rs es others)
       ∙ ap (λ l. entry l r.hi e.value ∷ es) (ap (λ x. x.lo) first)
       ∙ ap (λ h. entry e.lo h e.value ∷ es) (ap (λ x. x.hi) first)
@@ -114,7 +114,7 @@ module _ {V : Type 0} where
   pub record AreAlike (vss : List (List V)) (Ns : List (List (Entry ℕ))) (Ls : List (List (Entry V))) : Type 0 where
     pub firsts : first_keys Ls ≡ first_keys Ns
     pub ends : (s : ℤ) → all_steady_to s Ls ≡ all_steady_to s Ns
-    pub rows : (k : ℤ) → row Ls k ≡ picked vss (row Ns k)
+    pub rows : (k : ℤ) → row Ls k ≡ values_at_positions vss (row Ns k)
     pub keys : all_lengths_left Ls ≡ all_lengths_left Ns
     pub next : (t : ℤ) → AllPlaced vss (all_after t Ns) (all_after t Ls)
     pub valued_are : all_valued vss Ns ≡ Ls
@@ -183,11 +183,11 @@ module _ {V : Type 0} where
 
   -- a segment with the values at its places
   abbrev pub with_row : List (List V) → Entry (List (Option ℕ)) → Entry (List (Option V))
-  with_row vss p = entry p.lo p.hi (picked vss p.value)
+  with_row vss p = entry p.lo p.hi (values_at_positions vss p.value)
 
   -- the first segment by places is the first by values
   pub next_alike : (vss : List (List V)) (Ns Ns' : List (List (Entry ℕ))) (Ls : List (List (Entry V))) (p : Entry (List (Option ℕ))) → AllPlaced vss Ns Ls → IsNextSegment Ns p Ns' → IsNextSegment Ls (with_row vss p) (all_after p.hi Ls)
-  next_alike vss Ns Ns' Ls p a n = let r = alike vss Ns Ls a in record { starts = r.firsts ∙ n.starts; ends = r.ends p.lo ∙ n.ends; has = ap (picked vss) n.has ∙ sym (r.rows p.lo); left = refl }
+  next_alike vss Ns Ns' Ls p a n = let r = alike vss Ns Ls a in record { starts = r.firsts ∙ n.starts; ends = r.ends p.lo ∙ n.ends; has = ap (values_at_positions vss) n.has ∙ sym (r.rows p.lo); left = refl }
 
 -- ---- the keys that an odd number of lists have
 

@@ -28,7 +28,7 @@ pub use Rattle.blaze_streams.proofs.Lesser.{lesser_one}
 pub use Rattle.blaze_streams.proofs.Paired.{pair_laws}
 pub use Rattle.blaze_streams.proofs.Rows.{all_canonical_after, is_first, steady_none, none_left}
 pub use Rattle.blaze_streams.proofs.Steady.{same_some, stops_steady}
-pub use Rattle.blaze_streams.specs.Answers.{AnswersAtValue, TakesValue, values, answered}
+pub use Rattle.blaze_streams.specs.Answers.{AnswersAtValue, TakesValue, values, entries_with_results}
 pub use Rattle.blaze_streams.specs.Carried.{shown_option}
 pub use Rattle.blaze_streams.specs.Cursors.{AllCanonical, first_keys, all_after, IsNextSegment, first_key, steady_to, all_steady_to, lesser}
 pub use Rattle.blaze_streams.specs.JoinAnswers.{IsJoined}
@@ -59,4 +59,4 @@ pub use Rattle.range_map_multi.specs.Many.{has_odd, last_value, last_of_all, IsC
 pub use Rattle.range_map_multi.specs.ManyJoins.{IsJoinOfMany, IsCallableAtRows, IsManyJoined, shown_row, shown_full_row, asked_row}
 pub use Rattle.range_map_multi.specs.ManyLaws.{UnionOfTwoIsOr, IntersectionOfTwoIsAnd, SymmetricDifferenceOfTwoIsXor, InnerJoinOfTwoIsInnerJoin, FullJoinOfTwoIsFullJoin}
 pub use Rattle.range_map_multi.specs.Merges.{with_all, IsOnAll, GivesEach, GivesBoth}
-pub use Rattle.range_map_multi.specs.Parts.{AllPlaced, AllRangeMaps, picked, all_valued, with_values, in_places, HasPlacedValues, with_valued_range, valued}
+pub use Rattle.range_map_multi.specs.Parts.{AllPlaced, AllRangeMaps, values_at_positions, all_valued, with_values, in_places, HasPlacedValues, with_valued_range, ranges_with_values}

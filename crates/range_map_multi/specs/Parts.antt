@@ -34,21 +34,21 @@ with_valued_range r None es = es
 with_valued_range r (Some v) es = entry r.lo r.hi v ∷ es
 
 -- the ranges with the values at their positions
-abbrev pub valued : {V : Type 0} → List V → List (Entry ℕ) → List (Entry V)
-valued vs [] = []
-valued vs (r ∷ rs) = with_valued_range r (slice_get vs r.value) (valued vs rs)
+abbrev pub ranges_with_values : {V : Type 0} → List V → List (Entry ℕ) → List (Entry V)
+ranges_with_values vs [] = []
+ranges_with_values vs (r ∷ rs) = with_valued_range r (slice_get vs r.value) (ranges_with_values vs rs)
 
 -- the ranges of each list, with the values at their positions
 abbrev pub all_valued : {V : Type 0} → List (List V) → List (List (Entry ℕ)) → List (List (Entry V))
 all_valued [] Ns = []
 all_valued (vs ∷ vss) [] = []
-all_valued (vs ∷ vss) (N ∷ Ns) = valued vs N ∷ all_valued vss Ns
+all_valued (vs ∷ vss) (N ∷ Ns) = ranges_with_values vs N ∷ all_valued vss Ns
 
 -- the values at some positions, one of each list
-abbrev pub picked : {V : Type 0} → List (List V) → List (Option ℕ) → List (Option V)
-picked [] places = []
-picked (vs ∷ vss) [] = []
-picked (vs ∷ vss) (place ∷ places) = option_and_then (slice_get vs) place ∷ picked vss places
+abbrev pub values_at_positions : {V : Type 0} → List (List V) → List (Option ℕ) → List (Option V)
+values_at_positions [] places = []
+values_at_positions (vs ∷ vss) [] = []
+values_at_positions (vs ∷ vss) (place ∷ places) = option_and_then (slice_get vs) place ∷ values_at_positions vss places
 
 -- each list is a range map's
 abbrev pub AllRangeMaps : {V : Type 0} → (V → V → Bool) → ℤ → ℤ → List (List (Entry V)) → Type 0

@@ -1,5 +1,5 @@
-//! Operations between many maps that are lent, as they are or by references. The maps show that the keys outlive the loan,
-//! which code that is generic over keys has to know where it calls a function of streams.
+//! Many borrowed maps, in a list of maps or of references to maps. The maps show that the keys outlive the borrow. Code that is
+//! generic over keys needs this where it calls a function of streams.
 ghost use Rattle.std.specs.Prelude.{◌≡◌, List, map, refl, IfOk};
 ghost use Rattle.blaze_table.specs.Entries.{Entry};
 
@@ -13,7 +13,7 @@ pub trait Lends<A>: Drop {
     // The value.
     ghost value: { Self → A };
 
-    /// The value, lent.
+    /// Returns a reference to the value.
     fn lent(&self) -> &A
         ensures { result.now ≡ value self.now };
 }
@@ -23,7 +23,7 @@ pub trait AsMap<T: Integer, V: Eq + Clone>: Lends<RangeMapBlaze<T, V>> {
     // The entries of the map.
     ghost shown: { Self → List (Entry V) };
 
-    // They are those of the map that is lent.
+    // They are those of the borrowed map.
     ghost are_shown: { (m : Self) → (Self.value m).entries ≡ shown m };
 }
 
@@ -61,7 +61,7 @@ pub trait MapRef<T: Integer, V: Eq + Clone>: AsMap<T, V> {}
 
 impl<'a, T: Integer, V: Eq + Clone> MapRef<T, V> for &'a RangeMapBlaze<T, V> {}
 
-/// The entries of a map, as a stream.
+/// Returns the entries of a map, as a stream.
 pub fn entries_of<'a, T: Integer, V: Eq + Clone, M: AsMap<T, V>>(
     map: &'a M,
 ) -> SeekingRangeValuesIter<'a, T, V>
@@ -70,7 +70,7 @@ pub fn entries_of<'a, T: Integer, V: Eq + Clone, M: AsMap<T, V>>(
     map.lent().seeking_range_values()
 }
 
-/// The entries of each map, as streams.
+/// Returns the entries of each map, as streams.
 pub fn streams_of<'a, T: Integer, V: Eq + Clone, M: AsMap<T, V>>(
     alloc: Global,
     maps: &'a [M],

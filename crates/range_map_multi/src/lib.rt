@@ -1,12 +1,12 @@
 //! Operations between any number of maps, or of streams.
 #![tactic(auto)]
 
+mod borrowed_differences;
+mod borrowed_intersections;
+mod borrowed_joins;
+mod borrowed_unions;
 pub mod laws;
 mod lent;
-mod lent_differences;
-mod lent_intersections;
-mod lent_joins;
-mod lent_unions;
 mod lists;
 mod maps;
 mod merges;

@@ -8,11 +8,11 @@ ghost use Rattle.range_map_multi.specs.ManyJoins.{shown_row, shown_full_row, IsC
 ghost use Rattle.range_map_multi.specs.ManyJoins.{IsManyJoined};
 ghost use Rattle.range_map_blaze.specs.Made.{IsMade};
 
+use crate::borrowed_differences::borrowed_symmetric_difference;
+use crate::borrowed_intersections::borrowed_intersection;
+use crate::borrowed_joins::{borrowed_full_join, borrowed_inner_join};
+use crate::borrowed_unions::borrowed_union;
 use crate::lent::MapRef;
-use crate::lent_differences::lent_symmetric_difference;
-use crate::lent_intersections::lent_intersection;
-use crate::lent_joins::{lent_full_join, lent_inner_join};
-use crate::lent_unions::lent_union;
 use crate::owned_differences::owned_symmetric_difference;
 use crate::owned_unions::owned_union;
 use blaze_int::Integer;
@@ -119,15 +119,15 @@ impl<'a, T: Integer, V: Eq + Clone> MultiwayRangeMapBlazeRef<T, V>
     ghost lists = { λ s. map (λ m. m.now.entries) s.items };
 
     fn union(self, alloc: Global) -> Result<RangeMapBlaze<T, V>, AllocError> {
-        lent_union(alloc, &self)
+        borrowed_union(alloc, &self)
     }
 
     fn intersection(self, alloc: Global) -> Result<RangeMapBlaze<T, V>, AllocError> {
-        lent_intersection(alloc, &self)
+        borrowed_intersection(alloc, &self)
     }
 
     fn symmetric_difference(self, alloc: Global) -> Result<RangeMapBlaze<T, V>, AllocError> {
-        lent_symmetric_difference(alloc, &self)
+        borrowed_symmetric_difference(alloc, &self)
     }
 
     fn inner_join<W: Eq + Clone, F: FnMut(&[&V]) -> W>(
@@ -135,7 +135,7 @@ impl<'a, T: Integer, V: Eq + Clone> MultiwayRangeMapBlazeRef<T, V>
         alloc: Global,
         f: F,
     ) -> Result<RangeMapBlaze<T, W>, AllocError> {
-        lent_inner_join(alloc, &self, f)
+        borrowed_inner_join(alloc, &self, f)
     }
 
     fn full_join<W: Eq + Clone, F: FnMut(&[Option<&V>]) -> W>(
@@ -143,7 +143,7 @@ impl<'a, T: Integer, V: Eq + Clone> MultiwayRangeMapBlazeRef<T, V>
         alloc: Global,
         f: F,
     ) -> Result<RangeMapBlaze<T, W>, AllocError> {
-        lent_full_join(alloc, &self, f)
+        borrowed_full_join(alloc, &self, f)
     }
 }
 
@@ -153,17 +153,17 @@ impl<T: Integer, V: Eq + Clone, M: MapRef<T, V>, const N: usize> MultiwayRangeMa
 
     fn union(self, alloc: Global) -> Result<RangeMapBlaze<T, V>, AllocError> {
         let maps = Vec::from_array(alloc, self)?;
-        lent_union(alloc, &maps)
+        borrowed_union(alloc, &maps)
     }
 
     fn intersection(self, alloc: Global) -> Result<RangeMapBlaze<T, V>, AllocError> {
         let maps = Vec::from_array(alloc, self)?;
-        lent_intersection(alloc, &maps)
+        borrowed_intersection(alloc, &maps)
     }
 
     fn symmetric_difference(self, alloc: Global) -> Result<RangeMapBlaze<T, V>, AllocError> {
         let maps = Vec::from_array(alloc, self)?;
-        lent_symmetric_difference(alloc, &maps)
+        borrowed_symmetric_difference(alloc, &maps)
     }
 
     fn inner_join<W: Eq + Clone, F: FnMut(&[&V]) -> W>(
@@ -172,7 +172,7 @@ impl<T: Integer, V: Eq + Clone, M: MapRef<T, V>, const N: usize> MultiwayRangeMa
         f: F,
     ) -> Result<RangeMapBlaze<T, W>, AllocError> {
         let maps = Vec::from_array(alloc, self)?;
-        lent_inner_join(alloc, &maps, f)
+        borrowed_inner_join(alloc, &maps, f)
     }
 
     fn full_join<W: Eq + Clone, F: FnMut(&[Option<&V>]) -> W>(
@@ -181,7 +181,7 @@ impl<T: Integer, V: Eq + Clone, M: MapRef<T, V>, const N: usize> MultiwayRangeMa
         f: F,
     ) -> Result<RangeMapBlaze<T, W>, AllocError> {
         let maps = Vec::from_array(alloc, self)?;
-        lent_full_join(alloc, &maps, f)
+        borrowed_full_join(alloc, &maps, f)
     }
 }
 
@@ -249,7 +249,7 @@ impl<T: Integer, V: Eq + Clone> MultiwayRangeMapBlaze<T, V> for Vec<RangeMapBlaz
     }
 
     fn intersection(self, alloc: Global) -> Result<RangeMapBlaze<T, V>, AllocError> {
-        lent_intersection(alloc, &self)
+        borrowed_intersection(alloc, &self)
     }
 
     fn symmetric_difference(self, alloc: Global) -> Result<RangeMapBlaze<T, V>, AllocError> {
@@ -268,7 +268,7 @@ impl<T: Integer, V: Eq + Clone, const N: usize> MultiwayRangeMapBlaze<T, V>
 
     fn intersection(self, alloc: Global) -> Result<RangeMapBlaze<T, V>, AllocError> {
         let maps = Vec::from_array(alloc, self)?;
-        lent_intersection(alloc, &maps)
+        borrowed_intersection(alloc, &maps)
     }
 
     fn symmetric_difference(self, alloc: Global) -> Result<RangeMapBlaze<T, V>, AllocError> {

@@ -1,16 +1,16 @@
-//! The symmetric difference of many maps by value.
+//! The symmetric difference of many owned maps.
 ghost use Rattle.std.specs.Prelude.{◌<◌, length, map, IfOk};
 ghost use Rattle.blaze_table.specs.Painted.{ClonesAreAlike};
 ghost use Rattle.range_map_blaze.specs.Made.{IsMade};
 ghost use Rattle.range_map_multi.specs.Many.{last_of_odd, IsChosenOfMany};
 
-use crate::lent_differences::{difference_by_rounds, difference_with};
+use crate::borrowed_differences::{difference_by_rounds, difference_with};
 use crate::sizes::place_of_large;
 use blaze_int::Integer;
 use range_map_blaze::RangeMapBlaze;
 use std::alloc::{AllocError, Global};
 
-/// The value of the last map that has one, where an odd number have one. Of two maps it is `^`.
+/// Returns the keys that an odd number of maps have, with the value of the last of these. With two maps it is `^`.
 pub fn owned_symmetric_difference<T: Integer, V: Eq + Clone>(
     alloc: Global,
     mut maps: Vec<RangeMapBlaze<T, V>>,
@@ -29,7 +29,7 @@ pub fn owned_symmetric_difference<T: Integer, V: Eq + Clone>(
     }
 }
 
-/// The same, in the map at a place: by `^` with those before it, and of the result with those behind it.
+/// Changes the map at `place` into the symmetric difference, by a `^` with the maps before it and a `^` with those after it.
 fn difference_into<T: Integer, V: Eq + Clone>(
     alloc: Global,
     mut maps: Vec<RangeMapBlaze<T, V>>,

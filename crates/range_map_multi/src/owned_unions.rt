@@ -1,16 +1,16 @@
-//! The union of many maps by value.
+//! The union of many owned maps.
 ghost use Rattle.std.specs.Prelude.{◌<◌, length, map, IfOk};
 ghost use Rattle.blaze_table.specs.Painted.{ClonesAreAlike};
 ghost use Rattle.range_map_blaze.specs.Made.{IsMade};
 ghost use Rattle.range_map_multi.specs.Many.{last_value, IsChosenOfMany};
 
-use crate::lent_unions::united;
+use crate::borrowed_unions::union_by_rounds;
 use crate::sizes::place_of_large;
 use blaze_int::Integer;
 use range_map_blaze::RangeMapBlaze;
 use std::alloc::{AllocError, Global};
 
-/// The value of the last map that has one. Of two maps it is `|`.
+/// Returns the keys of all maps, with the value of the last map that has the key. With two maps it is `|`.
 pub fn owned_union<T: Integer, V: Eq + Clone>(
     alloc: Global,
     mut maps: Vec<RangeMapBlaze<T, V>>,
@@ -24,13 +24,14 @@ pub fn owned_union<T: Integer, V: Eq + Clone>(
         return left | right;
     }
     match place_of_large(&maps) {
-        Some(place) => united_into(alloc, maps, place),
-        None => united(alloc, &maps),
+        Some(place) => union_into(alloc, maps, place),
+        None => union_by_rounds(alloc, &maps),
     }
 }
 
-/// The same, in the map at a place: what the maps before it have fills its gaps, and what those behind it have is painted over.
-fn united_into<T: Integer, V: Eq + Clone>(
+/// Changes the map at `place` into the union. The entries of the maps before it fill its gaps, and those of the maps after it are
+/// painted over it.
+fn union_into<T: Integer, V: Eq + Clone>(
     alloc: Global,
     mut maps: Vec<RangeMapBlaze<T, V>>,
     place: usize,
@@ -41,8 +42,8 @@ fn united_into<T: Integer, V: Eq + Clone>(
 {
     let mut behind = maps.split_off(place)?;
     let large = behind.remove(0);
-    let under = united(alloc, &maps)?;
+    let under = union_by_rounds(alloc, &maps)?;
     let map = (under | large)?;
-    let over = united(alloc, &behind)?;
+    let over = union_by_rounds(alloc, &behind)?;
     map | over
 }

@@ -3,7 +3,7 @@ ghost use Rattle.std.specs.Prelude.{◌≡◌, ◌≤◌, length, map, Some, fal
 ghost use Rattle.std.specs.Prelude.{MatchBool};
 ghost use Rattle.std.specs.List.{list_all, slice_get};
 ghost use Rattle.std.specs.Option.{option_and_then};
-ghost use Rattle.range_map_multi.specs.Parts.{picked};
+ghost use Rattle.range_map_multi.specs.Parts.{values_at_positions};
 
 use std::alloc::AllocError;
 
@@ -33,7 +33,7 @@ pub fn fill_row<A: Copy>(
     lists: &[Vec<A>],
 ) -> Result<(), AllocError>
     requires { length places.now ≤ length lists.now }
-    ensures { OnOk result (row.new.items ≡ picked (map (λ v. v.items) lists.now) places.now) }
+    ensures { OnOk result (row.new.items ≡ values_at_positions (map (λ v. v.items) lists.now) places.now) }
 {
     row.clear();
     for i in 0..places.len() {

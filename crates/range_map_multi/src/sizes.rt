@@ -1,11 +1,11 @@
-//! Which of many maps has by far the most entries, and which the fewest.
+//! The position of the map with by far the most entries, and of the map with the fewest.
 ghost use Rattle.std.specs.Prelude.{◌<◌, length, IfSome};
 
 use crate::lent::AsMap;
 use blaze_int::Integer;
 
-/// The place of a map that has at least 16 entries for each entry of all the others together: a search or a paint for each of
-/// those takes less time than a pass over all.
+/// Returns the position of a map that has at least 16 times as many entries as all others together, or `None`. With such a map
+/// a search or a paint for each entry of the others takes less time than a pass over all.
 pub fn place_of_large<T: Integer, V: Eq + Clone, M: AsMap<T, V>>(maps: &[M]) -> Option<usize>
     ensures { IfSome result (λ place. place < length maps.now) }
 {
@@ -25,7 +25,7 @@ pub fn place_of_large<T: Integer, V: Eq + Clone, M: AsMap<T, V>>(maps: &[M]) -> 
     if others <= most / 16 { large } else { None }
 }
 
-/// The place of a map that has no more entries than any other.
+/// Returns the position of a map that has no more entries than any other.
 pub fn place_of_smallest<T: Integer, V: Eq + Clone, M: AsMap<T, V>>(maps: &[M]) -> usize
     requires { 0 < length maps.now }
     ensures { result < length maps.now }

@@ -5,13 +5,13 @@ ghost use Rattle.std.specs.Option.{option_map, option_copied};
 ghost use Rattle.blaze_entries.specs.Cloned.{IsRangeCloned};
 ghost use Rattle.blaze_entries.specs.Entries.{at};
 ghost use Rattle.blaze_entries.specs.Found.{found_in, shown_found, is_sought, range_in, shown_ends};
-ghost use Rattle.blaze_entries.specs.Overlap.{covered};
+ghost use Rattle.blaze_entries.specs.Overlap.{covered_keys};
 ghost use Rattle.blaze_entries.specs.Starts.{below, from, last_below, first_from, holder_of, start_at};
-ghost use Rattle.blaze_entries.specs.Walked.{RangesAscend, shown_plan, IsWalk, IsLookedAt};
+ghost use Rattle.blaze_entries.specs.Walked.{RangesAscend, shown_plan, IsWalk, HasWalkLookups};
 ghost use Rattle.blaze_entries.specs.Walked.{GoesOnUnlike};
 
 use super::Counted;
-use crate::found::{compared, range_cloned, range_of, reaching, value_cloned};
+use crate::found::{compared, entry_reaching, range_cloned, range_of, value_cloned};
 use crate::range_entry::RangeEntry;
 use crate::scan::{Walk, above_cloned, cloned_if, look_down};
 use blaze_int::Integer;
@@ -43,7 +43,10 @@ impl<T: Integer, V: Clone> Counted<T, V> {
     /// Returns the first and last key of the entry that contains `key`. If the entry has more than one key, the result
     /// includes a clone of its value. If the clone fails, the entries are unchanged. O(log n) with n entries, and one
     /// clone.
-    pub fn holder(&mut self, key: T) -> Result<Option<RangeEntry<T, Option<V>>>, AllocError>
+    pub fn entry_containing(
+        &mut self,
+        key: T,
+    ) -> Result<Option<RangeEntry<T, Option<V>>>, AllocError>
         ensures held { IfOk result (λ r.
             IsRangeCloned T.rank V.is_clone (holder_of (T.rank key) self.old.entries) r) }
         ensures refused { OnErr result
@@ -51,14 +54,14 @@ impl<T: Integer, V: Clone> Counted<T, V> {
         ensures looked { self.new ≡ record self.old { looks = self.old.looks + 1 } }
     {
         self.looks = self.looks.one_more();
-        let ends = range_cloned(reaching(self.tree.at_or_below(key), key))?;
+        let ends = range_cloned(entry_reaching(self.tree.at_or_below(key), key))?;
         Ok(ends)
     }
 
     /// Returns the first and last key of the first entry. If the entry has more than one key, the result includes a
     /// clone of its value. If the clone fails, the entries are unchanged. O(log n) with n entries, without comparing
     /// keys in the tree.
-    pub fn first_held(&mut self) -> Result<Option<RangeEntry<T, Option<V>>>, AllocError>
+    pub fn first_range_cloned(&mut self) -> Result<Option<RangeEntry<T, Option<V>>>, AllocError>
         ensures held { IfOk result (λ r.
             IsRangeCloned T.rank V.is_clone (slice_get self.old.entries 0) r) }
         ensures refused { OnErr result
@@ -152,23 +155,23 @@ impl<T: Integer, V: Eq + Clone> Counted<T, V> {
     ) -> Result<Walk<T, V>, AllocError>
         requires order { T.rank lo ≤ℤ T.rank hi }
         requires ranges { RangesAscend T.low T.high self.old.entries }
-        requires len { covered (T.rank lo) (T.rank hi) self.old.entries
+        requires len { covered_keys (T.rank lo) (T.rank hi) self.old.entries
             ≤ℤ pos (T.SafeLen.number len) }
         ensures found { IfOk result (λ w. IsWalk V.is_clone
             (is_sought V.eq (option_copied value.entry)) wanted (T.rank lo) (T.rank hi)
             (T.SafeLen.number len) self.old.entries (shown_plan T.rank w.plan)
-            (T.SafeLen.number w.outside) w.above w.value) }
+            (T.SafeLen.number w.keys_outside) w.above w.value) }
         ensures refused { OnErr result (GoesOnUnlike (is_sought V.eq (option_copied value.entry))
             (T.rank lo) (T.rank hi) self.old.entries
             ⊎ ((wanted ≡ true) × IsSome (at self.old.entries (T.rank lo)))) }
-        ensures looked { IsLookedAt 0 (T.rank lo) (T.rank hi) self.old self.new }
+        ensures looked { HasWalkLookups 0 (T.rank lo) (T.rank hi) self.old self.new }
     {
-        let (plan, outside, held) = look_down(&self.tree, len, lo, hi, value, &mut self.looks);
-        let above = above_cloned(plan.left, hi, held)?;
+        let (plan, keys_outside, held) = look_down(&self.tree, len, lo, hi, value, &mut self.looks);
+        let above = above_cloned(plan.predecessor, hi, held)?;
         let value = cloned_if(wanted, held)?;
         Ok(Walk {
             plan,
-            outside,
+            keys_outside,
             above,
             value,
         })

@@ -1,5 +1,5 @@
 -- The numbers of keys of the parts of a list.
-use Rattle.blaze_table.proofs.Words.{◌≡◌, ℕ, ℤ, pos, ◌+◌, ◌≤◌, ◌+ℤ◌, ◌-ℤ◌, ◌≤ℤ◌, Bool, cond, List, [], ◌∷◌, refl, ◌∙◌, sym, ap, subst, arith, IsEquivalence, int_max, int_min, int_le, ints, by_lt_z, by_bool, lt_true, lt_false, le_true, max_right, shared, overlap_none, overlap_over, Entry, SameEntries, entry, IsApart, IsCanonical, AreKeys, keys_in, before, after, glue, IsPaintOf, overlap, covered, IsTable}
+use Rattle.blaze_table.proofs.Words.{◌≡◌, ℕ, ℤ, pos, ◌+◌, ◌≤◌, ◌+ℤ◌, ◌-ℤ◌, ◌≤ℤ◌, Bool, cond, List, [], ◌∷◌, refl, ◌∙◌, sym, ap, subst, arith, IsEquivalence, int_max, int_min, int_le, ints, by_lt_z, by_bool, lt_true, lt_false, le_true, max_right, shared_count, overlap_none, overlap_over, Entry, SameEntries, entry, IsApart, IsCanonical, AreKeys, keys_in, before, after, glue, IsPaintOf, overlap, covered_keys, IsTable}
 use Rattle.blaze_table.proofs.Canonical.Lookup.{IsAbove, IsAbove-from_apart, above_by}
 use Rattle.blaze_table.proofs.Paints.Splices.{by_before, by_after, by_join, canonical_paint}
 
@@ -15,14 +15,14 @@ min_right : (a b : ℤ) → b ≤ℤ a → int_min a b ≡ b
 min_right a b h = by_lt_z b a (λ u. ap (λ t. cond t b a) (lt_true b a u)) (λ u. ap (λ t. cond t b a) (lt_false b a u) ∙ omega (arith, ints))
 
 -- the shared keys, by the first and the last of them
-shared_from : (l h a b x y : ℤ) → int_max l a ≡ x → int_min h b ≡ y → x ≤ℤ y → shared l h a b ≡ (y -ℤ x) +ℤ pos 1
+shared_from : (l h a b x y : ℤ) → int_max l a ≡ x → int_min h b ≡ y → x ≤ℤ y → shared_count l h a b ≡ (y -ℤ x) +ℤ pos 1
 shared_from l h a b x y p q w =
     ap (λ z. cond (int_le z (int_min h b)) ((int_min h b -ℤ z) +ℤ pos 1) (pos 0)) p
     ∙ ap (λ z. cond (int_le x z) ((z -ℤ x) +ℤ pos 1) (pos 0)) q
     ∙ ap (λ t. cond t ((y -ℤ x) +ℤ pos 1) (pos 0)) (le_true x y w)
 
 -- a range shares no more keys than it has
-shared_most : (l h a b : ℤ) → a ≤ℤ b → shared l h a b ≤ℤ (b -ℤ a +ℤ pos 1)
+shared_most : (l h a b : ℤ) → a ≤ℤ b → shared_count l h a b ≤ℤ (b -ℤ a +ℤ pos 1)
 shared_most l h a b w =
     let x = int_max l a in
     let y = int_min h b in
@@ -74,7 +74,7 @@ module _ {V : Type 0} (eq : V → V → Bool) where
   some_keys [] c = omega (arith, ints)
   some_keys (e ∷ es) c = omega (arith, ints, c.0, some_keys es c.2)
 
-  pub covered_none : (l h : ℤ) (es : List (Entry V)) → IsCanonical eq es → IsAbove h es → covered l h es ≡ pos 0
+  pub covered_none : (l h : ℤ) (es : List (Entry V)) → IsCanonical eq es → IsAbove h es → covered_keys l h es ≡ pos 0
   covered_none l h [] c a = refl
   covered_none l h (e ∷ es) c a = omega (arith, ints, overlap_over l h e a, covered_none l h es c.2 (above_more e es c.1 (omega (arith, ints, c.0))))
     where
@@ -93,7 +93,7 @@ module _ {V : Type 0} (eq : V → V → Bool) where
   keys_glue (e ∷ f ∷ L) M = omega (arith, ints, keys_glue (f ∷ L) M)
 
   -- the keys below a range, in it and above it are all keys
-  pub keys_apart : (l h : ℤ) (es : List (Entry V)) → l ≤ℤ h → IsCanonical eq es → (keys_in (before l es) +ℤ covered l h es) +ℤ keys_in (after h es) ≡ keys_in es
+  pub keys_apart : (l h : ℤ) (es : List (Entry V)) → l ≤ℤ h → IsCanonical eq es → (keys_in (before l es) +ℤ covered_keys l h es) +ℤ keys_in (after h es) ≡ keys_in es
   keys_apart l h [] w c = refl
   keys_apart l h (e ∷ es) w c =
       let i = keys_apart l h es w c.2 in

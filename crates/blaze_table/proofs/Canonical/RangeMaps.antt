@@ -1,5 +1,5 @@
 -- The invariant of a table implies its public clauses.
-use Rattle.blaze_table.proofs.Words.{◌≡◌, ℕ, ℤ, pos, ◌+ℤ◌, ◌-ℤ◌, ◌≤ℤ◌, Bool, List, [], ◌∷◌, Option, arith, ints, IsEquivalence, StartsAscend, Entry, IsCanonical, AreKeys, IsRangeMap, IsInside, IsPainted, IsCut, IsSplit, IsTablePainted, IsKeyCut, IsListSplit, IsTable}
+use Rattle.blaze_table.proofs.Words.{◌≡◌, ℕ, ℤ, pos, ◌+ℤ◌, ◌-ℤ◌, ◌≤ℤ◌, Bool, List, [], ◌∷◌, Option, arith, ints, IsEquivalence, StartsAscend, Entry, IsCanonical, AreKeys, IsRangeMap, IsInside, IsPainted, IsKeyRemoved, IsSplit, IsTablePainted, IsKeyCut, IsListSplit, IsTable}
 use Rattle.blaze_table.proofs.Canonical.Lookup.{IsAbove, IsAbove-from_apart, above_by}
 use Rattle.blaze_table.proofs.Canonical.Runs.{one_per_run}
 use Rattle.blaze_table.proofs.Paints.Kept.{kept_alone}
@@ -11,7 +11,7 @@ module _ {V : Type 0} (eq : V → V → Bool) (laws : IsEquivalence eq) (low hig
   pub painted_map : (p : Entry V) (old new : List (Entry V)) → p.lo ≤ℤ p.hi → IsTablePainted eq low high n p old new → (IsInside eq p.lo p.hi p.value old → new ≡ old) → IsPainted eq low high p old new
   painted_map p old new w t inside = let d = t.painted in record { range_map = range_map new t.table; content = d.content; few = d.few; alone = d.alone; kept = kept_alone eq p old new w d.kept inside }
 
-  pub cut_map : (k : ℤ) (value : Option V) (old new : List (Entry V)) → IsKeyCut eq low high n k value old new → IsCut eq low high k old new
+  pub cut_map : (k : ℤ) (value : Option V) (old new : List (Entry V)) → IsKeyCut eq low high n k value old new → IsKeyRemoved eq low high k old new
   cut_map k value old new c = record { range_map = range_map new c.table; content = c.content }
 
 module _ {V : Type 0} (eq : V → V → Bool) (laws : IsEquivalence eq) (low high : ℤ) where

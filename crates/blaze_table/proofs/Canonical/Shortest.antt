@@ -41,7 +41,7 @@ module _ {V : Type 0} (eq : V → V → Bool) (laws : IsEquivalence eq) where
   joined : (e f : Entry V) (fs : List (Entry V)) → IsDisjoint (e ∷ f ∷ fs) → f.lo ≡ e.hi +ℤ pos 1 → eq e.value f.value ≡ true → IsShorter (e ∷ f ∷ fs)
   joined e f fs d touch alike = record {
     others = entry e.lo f.hi e.value ∷ fs;
-    disjoint = (omega (arith, ints, d.0, d.2.0, touch), clear_of (entry e.lo f.hi e.value) fs outside, d.2.2);
+    disjoint = (omega (arith, ints, d.0, d.2.0, touch), clear_of (entry e.lo f.hi e.value) fs keys_outside, d.2.2);
     content = content;
     fewer = omega arith;
   }
@@ -55,8 +55,8 @@ module _ {V : Type 0} (eq : V → V → Bool) (laws : IsEquivalence eq) where
           (λ l. absurd (grind (arith, ints, h, l)))
           (λ u. absurd (grind (arith, ints, h, u)))
 
-      outside : (k : ℤ) → holds (entry e.lo f.hi e.value) k ≡ true → at fs k ≡ None
-      outside k h = ⊎_elim
+      keys_outside : (k : ℤ) → holds (entry e.lo f.hi e.value) k ≡ true → at fs k ≡ None
+      keys_outside k h = ⊎_elim
           (λ (p : holds e k ≡ true). at_clear e fs k d.1.1 p)
           (λ (p : holds f k ≡ true). at_clear f fs k d.2.1 p)
           (in_either k h)

@@ -1,5 +1,5 @@
 -- The last key is removed from the last entry, given the result of the lookup.
-use Rattle.blaze_table.proofs.Words.{◌≡◌, ◌-◌, length, ℤ, pos, ◌+ℤ◌, ◌≤ℤ◌, Bool, List, [], ◌∷◌, ◌++◌, Option, Some, None, refl, ◌∙◌, sym, subst, ap, arith, length-append, IsEquivalence, slice_get, option_map, IsSomeAnd, ints, append-nil, IsRangeCloned, IsManyCloned, range_in, StartsAscend, holder_of, start_at, without, with_end, with_last_end, IsLastRemoved, RangeEntry, by_order, StartsBelow, IsCanonical, Entry, ClonesAreAlike, IsCutOf, IsKeyTaken}
+use Rattle.blaze_table.proofs.Words.{◌≡◌, ◌-◌, length, ℤ, pos, ◌+ℤ◌, ◌≤ℤ◌, Bool, List, [], ◌∷◌, ◌++◌, Option, Some, None, refl, ◌∙◌, sym, subst, ap, arith, length-append, IsEquivalence, slice_get, option_map, IsSomeAnd, ints, append-nil, IsRangeCloned, IsManyCloned, range_in, StartsAscend, holder_of, start_at, without, with_end, with_last_end, IsLastRemoved, RangeEntry, by_order, StartsBelow, IsCanonical, Entry, ClonesAreAlike, IsListWithoutKey, IsKeyTaken}
 use Rattle.blaze_table.proofs.Cuts.CutEdits.{HasKey, has_key, end_taken, value_removed, whole_cut}
 use Rattle.blaze_table.proofs.Cuts.Ends.{last_holder, end_held}
 use Rattle.blaze_table.proofs.Cuts.Splits.{canonical_part}
@@ -81,7 +81,7 @@ module _ {T V : Type 0} (rank : T → ℤ) (is_clone : V → V → Type 0) (r : 
         let start : l.lo ≡ rank r.end = omega (arith, ints) in
         let under = subst (λ k. StartsBelow k new) start (starts_under low high new l (subst (StartsAscend low high) removed.removed s)).1 in
         record {
-          cut = subst (IsCutOf eq (rank r.end) es) (ap (without (rank r.end)) removed.removed ∙ without-between (rank r.end) l new [] start under ∙ append-nil new)
+          cut = subst (IsListWithoutKey eq (rank r.end) es) (ap (without (rank r.end)) removed.removed ∙ without-between (rank r.end) l new [] start under ∙ append-nil new)
               (whole_cut eq laws (rank r.end) low high es s c h.of h.last h.up one);
           value = value_removed eq laws (rank r.end) low high es s c h.of h.last h.up one w
               (ap (λ xs. option_map (λ (x : Entry V). x.value) (start_at (rank r.end) xs)) removed.removed ∙ ap (option_map (λ x. x.value)) (found_there (rank r.end) l new [] start under) ∙ ap (λ v. Some v) removed.value);

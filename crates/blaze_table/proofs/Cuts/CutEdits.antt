@@ -1,5 +1,5 @@
 -- A key is removed from the entry that contains it: the edits, what they require of the entry, and their result.
-use Rattle.blaze_table.proofs.Words.{◌≡◌, ℕ, Bool, ℤ, pos, ◌+ℤ◌, ◌-ℤ◌, ◌≤ℤ◌, ◌<ℤ◌, true, cond, List, [], ◌∷◌, ◌++◌, Option, Some, None, Result, Ok, Err, OnErr, refl, ◌∙◌, sym, subst, ap, arith, IsEquivalence, option_map, IsSome, IsSomeAnd, ints, by_lt_z, append_assoc, lt_true, lt_false, IsManyCloned, range_in, StartsAscend, last_below, reaching, holder_of, start_at, with_entry, without, with_end, IsStartMoved, one_value, same_along, more_below, IsCanonical, IsAmongOthers, Entry, entry, at, entry_at, SameEntries, SameOption, ClonesAreAlike, before, after, IsBelow, IsCutOf, IsKeyTaken, IsKeyCut, covered, IsTable}
+use Rattle.blaze_table.proofs.Words.{◌≡◌, ℕ, Bool, ℤ, pos, ◌+ℤ◌, ◌-ℤ◌, ◌≤ℤ◌, ◌<ℤ◌, true, cond, List, [], ◌∷◌, ◌++◌, Option, Some, None, Result, Ok, Err, OnErr, refl, ◌∙◌, sym, subst, ap, arith, IsEquivalence, option_map, IsSome, IsSomeAnd, ints, by_lt_z, append_assoc, lt_true, lt_false, IsManyCloned, range_in, StartsAscend, last_below, entry_reaching, holder_of, start_at, with_entry, without, with_end, IsStartMoved, one_value, same_along, more_below, IsCanonical, IsAmongOthers, Entry, entry, at, entry_at, SameEntries, SameOption, ClonesAreAlike, before, after, IsBelow, IsListWithoutKey, IsKeyTaken, IsKeyCut, covered_keys, IsTable}
 use Rattle.blaze_table.proofs.Canonical.Counted.{overlap_whole}
 use Rattle.blaze_table.proofs.Canonical.Lookup.{IsAbove, at_over, at_before, entry_in, entry_over}
 use Rattle.blaze_table.proofs.Cuts.Cutting.{after_whole, cut_content, cut_table, at_cut, covered_past, covered_fits}
@@ -41,7 +41,7 @@ module _ {V : Type 0} (eq : V → V → Bool) (laws : IsEquivalence eq) (k low h
   pub has_key : (P : Entry V → Type 0) → IsSomeAnd (holder_of k es) P → HasKey P
   has_key P i = by_last (last_below (k +ℤ pos 1) es) refl i
     where
-      by_last : (o : Option (Entry V)) → last_below (k +ℤ pos 1) es ≡ o → IsSomeAnd (reaching k o) P → HasKey P
+      by_last : (o : Option (Entry V)) → last_below (k +ℤ pos 1) es ≡ o → IsSomeAnd (entry_reaching k o) P → HasKey P
       by_last None q i = absurd i
       by_last (Some e) q i = by_lt_z e.hi k
           (λ u. absurd (subst (λ b. IsSomeAnd (cond b None (Some e)) P) (lt_true e.hi k u) i))
@@ -64,7 +64,7 @@ module _ {V : Type 0} (eq : V → V → Bool) (laws : IsEquivalence eq) (k low h
     ended u = ap (λ l. at l k) i.parts ∙ at_past k i.front (e ∷ i.back) under ∙ at_over e i.back k u ∙ at_before eq i.back k k canonical.2 over (omega (arith, ints))
 
     -- the entry is replaced by its part below the key, and the part above it
-    cut_apart : (xs above new : List (Entry V)) → before k (e ∷ i.back) ≡ xs → SameEntries eq (after k (e ∷ i.back)) above → new ≡ i.front ++ (xs ++ above) → IsCutOf eq k es new
+    cut_apart : (xs above new : List (Entry V)) → before k (e ∷ i.back) ≡ xs → SameEntries eq (after k (e ∷ i.back)) above → new ≡ i.front ++ (xs ++ above) → IsListWithoutKey eq k es new
     cut_apart xs above new p like q = record {
       above = above;
       like = subst (λ l. SameEntries eq l above) (sym (ap (after k) i.parts ∙ after_past k k i.front (e ∷ i.back) (omega (arith, ints)) under)) like;
@@ -95,7 +95,7 @@ module _ {V : Type 0} (eq : V → V → Bool) (laws : IsEquivalence eq) (k low h
       present = subst (λ o. IsSome o) (sym there) refl
 
       -- the entry ends at the key: its end moves down
-      end_cut : a <ℤ z → z ≤ℤ k → k ≤ℤ z → (y : ℤ) → y +ℤ pos 1 ≡ k → (new : List (Entry V)) → new ≡ with_end a y es → IsCutOf eq k es new
+      end_cut : a <ℤ z → z ≤ℤ k → k ≤ℤ z → (y : ℤ) → y +ℤ pos 1 ≡ k → (new : List (Entry V)) → new ≡ with_end a y es → IsListWithoutKey eq k es new
       end_cut long under up y t new q =
           let lo = at_lo in
           let hi = at_hi in
@@ -118,7 +118,7 @@ module _ {V : Type 0} (eq : V → V → Bool) (laws : IsEquivalence eq) (k low h
               subst (λ l. SameEntries eq l (p ∷ i.back)) (sym (after_cuts k e i.back (omega (arith, ints)) starts)) (sym next, omega (arith, ints), like, entries_themselves eq laws i.back)
 
           -- the entry starts at the key: its start moves up
-          front_cut : k ≤ℤ a → (new : List (Entry V)) → new ≡ with_entry p (without a es) → IsCutOf eq k es new
+          front_cut : k ≤ℤ a → (new : List (Entry V)) → new ≡ with_entry p (without a es) → IsListWithoutKey eq k es new
           front_cut l new q =
               let lo = at_lo in
               let hi = at_hi in
@@ -128,7 +128,7 @@ module _ {V : Type 0} (eq : V → V → Bool) (laws : IsEquivalence eq) (k low h
               ∙ with_entry-between p (e.hi +ℤ pos 1) high i.front i.back (more_below e.lo p.lo i.front (omega (arith, ints)) i.front_below) (omega (arith, ints)) back_over)
 
           -- the entry starts below the key: a new entry is inserted, and its end moves down
-          inside_cut : a <ℤ k → (y : ℤ) → y +ℤ pos 1 ≡ k → (mid new : List (Entry V)) → mid ≡ with_entry p es → new ≡ with_end a y mid → IsCutOf eq k es new
+          inside_cut : a <ℤ k → (y : ℤ) → y +ℤ pos 1 ≡ k → (mid new : List (Entry V)) → mid ≡ with_entry p es → new ≡ with_end a y mid → IsListWithoutKey eq k es new
           inside_cut l y t mid new m q =
               let lo = at_lo in
               let hi = at_hi in
@@ -142,12 +142,12 @@ module _ {V : Type 0} (eq : V → V → Bool) (laws : IsEquivalence eq) (k low h
         none_at_next : (n : ℤ) → n ≡ k +ℤ pos 1 → start_at n es ≡ None
         none_at_next n next = ap (λ x. start_at x es) next ∙ none_above
 
-        start_cut : (n : ℤ) → n ≡ k +ℤ pos 1 → k ≤ℤ a → (new : List (Entry V)) → IsStartMoved a n es new → IsCutOf eq k es new
+        start_cut : (n : ℤ) → n ≡ k +ℤ pos 1 → k ≤ℤ a → (new : List (Entry V)) → IsStartMoved a n es new → IsListWithoutKey eq k es new
         start_cut n next l new w =
             let one : w.of ≡ e = one_value (start_at a es) w.found there in
             front_cut (entry n w.of.hi w.of.value) next (ap (λ (x : Entry V). x.hi) one ∙ sym at_hi) (subst (λ (x : Entry V). eq e.value x.value ≡ true) (sym one) (laws.refl e.value)) l new w.moved
 
-        between_cut : (n : ℤ) → n ≡ k +ℤ pos 1 → (v w : V) → eq e.value v ≡ true → eq v w ≡ true → a <ℤ k → (y : ℤ) → y +ℤ pos 1 ≡ k → (mid new : List (Entry V)) → mid ≡ with_entry (entry n z w) es → new ≡ with_end a y mid → IsCutOf eq k es new
+        between_cut : (n : ℤ) → n ≡ k +ℤ pos 1 → (v w : V) → eq e.value v ≡ true → eq v w ≡ true → a <ℤ k → (y : ℤ) → y +ℤ pos 1 ≡ k → (mid new : List (Entry V)) → mid ≡ with_entry (entry n z w) es → new ≡ with_end a y mid → IsListWithoutKey eq k es new
         between_cut n next v w like copy l y t mid new m q = inside_cut (entry n z w) next refl (sym (laws.congr v e.value w (laws.symm v e.value ∙ like)) ∙ copy) l y t mid new m q
 
     module _ (up : k ≤ℤ e.hi) where
@@ -161,9 +161,9 @@ module _ {V : Type 0} (eq : V → V → Bool) (laws : IsEquivalence eq) (k low h
       pub among_others : e.lo <ℤ e.hi → IsAmongOthers k es
       among_others u = record { entry = e; here = entry_held eq (k +ℤ pos 1) high e es i c k starts up; long = u }
 
-      one_covered : covered k k es ≡ pos 1
+      one_covered : covered_keys k k es ≡ pos 1
       one_covered =
-          ap (covered k k) i.parts ∙ covered_past eq k k (omega (arith, ints)) i.front under e i.back (parted eq k high e es i c) over
+          ap (covered_keys k k) i.parts ∙ covered_past eq k k (omega (arith, ints)) i.front under e i.back (parted eq k high e es i c) over
           ∙ omega (arith, ints, overlap_whole k k e starts (omega (arith, ints)) up)
 
       -- the entry has one key
@@ -177,7 +177,7 @@ module _ {V : Type 0} (eq : V → V → Bool) (laws : IsEquivalence eq) (k low h
         pub value_removed : (v : V) → option_map (λ f. f.value) (start_at k es) ≡ Some v → SameOption eq (at es k) (Some v)
         value_removed v q = same_along eq (sym (at_held ∙ ap (option_map (λ f. f.value)) (sym found) ∙ q)) refl (laws.refl v)
 
-        pub whole_cut : IsCutOf eq k es (without k es)
+        pub whole_cut : IsListWithoutKey eq k es (without k es)
         whole_cut =
             let l = lo in
             cut_apart [] i.back (without k es) (before_ends k e i.back up (omega (arith, ints))) (back_like (omega (arith, ints)) up)
@@ -191,7 +191,7 @@ module _ {V : Type 0} (eq : V → V → Bool) (laws : IsEquivalence eq) (k low h
     like : eq shared.of.value v ≡ true
     like = alike shared.of.value v shared.holds.1.1
 
-    taken : (new : List (Entry V)) → IsCutOf eq k es new → IsKeyTaken eq k (Some v) es new
+    taken : (new : List (Entry V)) → IsListWithoutKey eq k es new → IsKeyTaken eq k (Some v) es new
     taken new cut = record { cut = cut; value = value_held shared.of shared.last shared.up v like }
 
     pub held_there : IsSome (start_at a es)
@@ -220,7 +220,7 @@ module _ {V : Type 0} (eq : V → V → Bool) (laws : IsEquivalence eq) (k low h
   pub no_key : holder_of k es ≡ None → at es k ≡ None
   no_key n = by_last (last_below (k +ℤ pos 1) es) refl n
     where
-      by_last : (o : Option (Entry V)) → last_below (k +ℤ pos 1) es ≡ o → reaching k o ≡ None → at es k ≡ None
+      by_last : (o : Option (Entry V)) → last_below (k +ℤ pos 1) es ≡ o → entry_reaching k o ≡ None → at es k ≡ None
       by_last None q n = at_before eq es k k c (above_from (k +ℤ pos 1) k high es (omega (arith, ints)) (no_last_from (k +ℤ pos 1) low high es s q)) (omega (arith, ints))
       by_last (Some e) q n = by_lt_z e.hi k
           (λ u. ended e (last_at (k +ℤ pos 1) low high e es s q) u)

@@ -1,5 +1,5 @@
 -- A list without a range of keys, from its parts.
-use Rattle.blaze_table.proofs.Words.{option_or, ◌≡◌, ◌⊎◌, inl, inr, ℕ, ℤ, pos, ◌+ℤ◌, ◌≤ℤ◌, ◌<ℤ◌, Bool, false, cond, List, [], ◌∷◌, ◌++◌, Option, Some, None, refl, ◌∙◌, sym, ap, subst, arith, IsEquivalence, Contains, Contains-append_left, int_eq, ints, by_lt_z, and_left, eq_true, le_true, le_false, same_along, same_trans, same_or_right, Entry, at, SameOption, entry, IsCanonical, AreKeys, keys_in, before, after, glue, IsBelow, IsRangeCutOf, IsCutOf, IsTableCut, overlap, covered, cut_at, cut_range_at, IsRangeCut, IsTable, overlap_none}
+use Rattle.blaze_table.proofs.Words.{option_or, ◌≡◌, ◌⊎◌, inl, inr, ℕ, ℤ, pos, ◌+ℤ◌, ◌≤ℤ◌, ◌<ℤ◌, Bool, false, cond, List, [], ◌∷◌, ◌++◌, Option, Some, None, refl, ◌∙◌, sym, ap, subst, arith, IsEquivalence, Contains, Contains-append_left, int_eq, ints, by_lt_z, and_left, eq_true, le_true, le_false, same_along, same_trans, same_or_right, Entry, at, SameOption, entry, IsCanonical, AreKeys, keys_in, before, after, glue, IsBelow, IsListWithoutRange, IsListWithoutKey, IsTableCut, overlap, covered_keys, cut_at, cut_range_at, IsRangeCut, IsTable, overlap_none}
 use Rattle.blaze_table.proofs.Canonical.Lookup.{IsAbove, above_rest, at_in, at_over, at_before, above_by}
 use Rattle.blaze_table.proofs.Canonical.RangeMaps.{range_map}
 use Rattle.blaze_table.proofs.Canonical.Unique.{back}
@@ -42,7 +42,7 @@ module _ {V : Type 0} (eq : V → V → Bool) where
       some_none : (v : V) → Some v ≡ None → ⊥
       some_none v p = cc
 
-  pub cut_nothing : IsEquivalence eq → (l h : ℤ) → l ≤ℤ h → (es : List (Entry V)) → IsCanonical eq es → ((j : ℤ) → l ≤ℤ j → j ≤ℤ h → at es j ≡ None) → IsRangeCutOf eq l h es es
+  pub cut_nothing : IsEquivalence eq → (l h : ℤ) → l ≤ℤ h → (es : List (Entry V)) → IsCanonical eq es → ((j : ℤ) → l ≤ℤ j → j ≤ℤ h → at es j ≡ None) → IsListWithoutRange eq l h es es
   cut_nothing laws l h w es c n = record {
     above = after h es;
     like = entries_themselves eq laws (after h es);
@@ -54,7 +54,7 @@ module _ {V : Type 0} (eq : V → V → Bool) where
   at_cut k [] b e C l h = at_in e C k l h
   at_cut k (x ∷ A) b e C l h = at_over x (A ++ e ∷ C) k b.0 ∙ at_cut k A b.1 e C l h
 
-module _ {V : Type 0} (eq : V → V → Bool) (laws : IsEquivalence eq) (l h : ℤ) (w : l ≤ℤ h) (es new : List (Entry V)) (c : IsCanonical eq es) (r : IsRangeCutOf eq l h es new) where
+module _ {V : Type 0} (eq : V → V → Bool) (laws : IsEquivalence eq) (l h : ℤ) (w : l ≤ℤ h) (es new : List (Entry V)) (c : IsCanonical eq es) (r : IsListWithoutRange eq l h es new) where
   above_is : IsCanonical eq r.above
   above_is = canonical_as eq laws (after h es) r.above r.like (canonical_after eq h es c)
 
@@ -85,10 +85,10 @@ module _ {V : Type 0} (eq : V → V → Bool) (laws : IsEquivalence eq) (l h : �
       (at_glue eq laws (before l es) r.above j (canonical_before eq l es c) above_is)
       (same_along eq refl (two j) (same_or_right eq laws (at (before l es) j) (at r.above j) (at (after h es) j) (back eq laws (after h es) r.above (content_as eq laws (after h es) r.above r.like) j))))
 
-  pub cut_keys : keys_in new +ℤ covered l h es ≡ keys_in es
-  cut_keys = ap (λ xs. keys_in xs +ℤ covered l h es) new_is ∙ omega (arith, ints, keys_glue eq (before l es) r.above, same_keys_in eq (after h es) r.above r.like, keys_apart eq l h es w c)
+  pub cut_keys : keys_in new +ℤ covered_keys l h es ≡ keys_in es
+  cut_keys = ap (λ xs. keys_in xs +ℤ covered_keys l h es) new_is ∙ omega (arith, ints, keys_glue eq (before l es) r.above, same_keys_in eq (after h es) r.above r.like, keys_apart eq l h es w c)
 
-  pub cut_table : (low high : ℤ) (n m : ℕ) → IsTable eq low high n es → pos m +ℤ covered l h es ≡ pos n → IsTable eq low high m new
+  pub cut_table : (low high : ℤ) (n m : ℕ) → IsTable eq low high n es → pos m +ℤ covered_keys l h es ≡ pos n → IsTable eq low high m new
   cut_table low high n m t p = record {
     canonical = cut_canonical;
     are_keys = subst (AreKeys low high) (sym new_is) (are_keys_glue eq low high (before l es) r.above (are_keys_before eq low high l es t.are_keys) (are_keys_as eq low high (after h es) r.above r.like (are_keys_after eq low high h es t.are_keys)));
@@ -107,7 +107,7 @@ module _ {V : Type 0} (k : ℤ) (content : ℤ → Option V) where
       int_eq_no : (a b : ℤ) → (a ≡ b → ⊥) → int_eq a b ≡ false
       int_eq_no a b h = grind (arith, ints)
 
-pub cut_content : {V : Type 0} (eq : V → V → Bool) (laws : IsEquivalence eq) (k : ℤ) (es new : List (Entry V)) → IsCanonical eq es → IsCutOf eq k es new → (j : ℤ) → SameOption eq (at new j) (cut_at k (at es) j)
+pub cut_content : {V : Type 0} (eq : V → V → Bool) (laws : IsEquivalence eq) (k : ℤ) (es new : List (Entry V)) → IsCanonical eq es → IsListWithoutKey eq k es new → (j : ℤ) → SameOption eq (at new j) (cut_at k (at es) j)
 cut_content eq laws k es new c r j = same_along eq refl (cut_one k (at es) j) (range_cut_content eq laws k k (omega (arith, ints)) es new c r j)
 
 -- no entry contains the key
@@ -119,11 +119,11 @@ key_absent eq laws k es c n = cut_content eq laws k es es c (cut_nothing eq laws
 
 module _ {V : Type 0} (eq : V → V → Bool) (l h : ℤ) where
   -- only the entry e has keys from l to h
-  pub covered_past : (w : l ≤ℤ h) (A : List (Entry V)) → IsBelow l A → (e : Entry V) (C : List (Entry V)) → IsCanonical eq (A ++ e ∷ C) → IsAbove h C → covered l h (A ++ e ∷ C) ≡ overlap l h e
+  pub covered_past : (w : l ≤ℤ h) (A : List (Entry V)) → IsBelow l A → (e : Entry V) (C : List (Entry V)) → IsCanonical eq (A ++ e ∷ C) → IsAbove h C → covered_keys l h (A ++ e ∷ C) ≡ overlap l h e
   covered_past w [] b e C c a = omega (arith, ints, covered_none eq l h C c.2 a)
   covered_past w (x ∷ A) b e C c a = omega (arith, ints, overlap_none l h x c.0 b.0, covered_past w A b.1 e C c.2 a)
 
-  pub covered_fits : (es : List (Entry V)) → IsCanonical eq es → covered l h es ≤ℤ keys_in es
+  pub covered_fits : (es : List (Entry V)) → IsCanonical eq es → covered_keys l h es ≤ℤ keys_in es
   covered_fits [] c = omega (arith, ints)
   covered_fits (e ∷ es) c = omega (arith, ints, overlap_most l h e c.0, covered_fits es c.2)
 

@@ -1,5 +1,5 @@
 -- The first and the last key are removed: they are in the first and the last entry.
-use Rattle.blaze_table.proofs.Words.{◌≡◌, ◌-◌, ℤ, pos, ◌+ℤ◌, ◌≤ℤ◌, ◌<ℤ◌, Bool, cond, List, [], ◌∷◌, length, Option, Some, None, refl, ◌∙◌, sym, subst, ap, arith, IsEquivalence, slice_get, last_or, IsSome, IfSome, IsSomeAnd, ints, lt_false, IsRangeCloned, IsManyCloned, range_in, StartsAscend, below, last_below, reaching, holder_of, RangeEntry, below_takes, below_none, IsCanonical, IsAmongOthers, Entry}
+use Rattle.blaze_table.proofs.Words.{◌≡◌, ◌-◌, ℤ, pos, ◌+ℤ◌, ◌≤ℤ◌, ◌<ℤ◌, Bool, cond, List, [], ◌∷◌, length, Option, Some, None, refl, ◌∙◌, sym, subst, ap, arith, IsEquivalence, slice_get, last_or, IsSome, IfSome, IsSomeAnd, ints, lt_false, IsRangeCloned, IsManyCloned, range_in, StartsAscend, below, last_below, entry_reaching, holder_of, RangeEntry, below_takes, below_none, IsCanonical, IsAmongOthers, Entry}
 use Rattle.blaze_table.proofs.Cuts.CutEdits.{HasKey, has_key, among_others}
 
 module _ {V : Type 0} (eq : V → V → Bool) where
@@ -23,7 +23,7 @@ module _ {V : Type 0} (eq : V → V → Bool) where
 
   -- the entry contains the key
   holds : (k : ℤ) (es : List (Entry V)) (e : Entry V) → k ≤ℤ e.hi → last_below (k +ℤ pos 1) es ≡ Some e → holder_of k es ≡ Some e
-  holds k es e u q = ap (reaching k) q ∙ ap (λ b. cond b None (Some e)) (lt_false e.hi k u)
+  holds k es e u q = ap (entry_reaching k) q ∙ ap (λ b. cond b None (Some e)) (lt_false e.hi k u)
 
   first_holder : (low high : ℤ) (es : List (Entry V)) → StartsAscend low high es → IsCanonical eq es → (e : Entry V) → slice_get es 0 ≡ Some e → holder_of e.lo es ≡ Some e
   first_holder low high [] s c e p = cc

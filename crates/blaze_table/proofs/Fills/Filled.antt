@@ -1,5 +1,5 @@
 -- The result of a fill, key by key.
-use Rattle.blaze_table.proofs.Words.{option_or, ◌≡◌, ℤ, ◌≤ℤ◌, ◌<ℤ◌, Bool, cond, List, Option, Some, None, refl, ◌∙◌, sym, ap, IsSome, IsEquivalence, same_along, same_itself, or_none, Entry, entry, at, IsRangeMap, filled, IsFilled, IsHeldFrom}
+use Rattle.blaze_table.proofs.Words.{option_or, ◌≡◌, ℤ, ◌≤ℤ◌, ◌<ℤ◌, Bool, cond, List, Option, Some, None, refl, ◌∙◌, sym, ap, IsSome, IsEquivalence, same_along, same_itself, or_none, Entry, entry, at, IsRangeMap, filled, IsFilled, IsMappedFrom}
 use Rattle.blaze_table.proofs.Canonical.Lookup.{by_place, holds_in, holds_under, holds_over}
 use Rattle.blaze_table.proofs.Fills.KeptEntries.{all_kept}
 
@@ -19,14 +19,14 @@ module _ {V : Type 0} where
   or_some None b s = cc
 
   -- a fill of a range that has values everywhere changes nothing
-  pub filled_held : (content : ℤ → Option V) (v : V) (l h : ℤ) → IsHeldFrom content l h → (k : ℤ) → filled l h v content k ≡ content k
+  pub filled_held : (content : ℤ → Option V) (v : V) (l h : ℤ) → IsMappedFrom content l h → (k : ℤ) → filled l h v content k ≡ content k
   filled_held content v l h s k = by_place (entry l h v) k
       (λ a b. filled_in content v l h k a b ∙ or_some (content k) (Some v) (s k a b))
       (filled_under content v l h k)
       (filled_over content v l h k)
 
 -- if each key of the range has a value, the list is already filled
-pub filled_none : {V : Type 0} (eq : V → V → Bool) (laws : IsEquivalence eq) (low high l h : ℤ) (v : V) (old : List (Entry V)) → IsRangeMap eq low high old → IsHeldFrom (at old) l h → IsFilled eq low high (entry l h v) old old
+pub filled_none : {V : Type 0} (eq : V → V → Bool) (laws : IsEquivalence eq) (low high l h : ℤ) (v : V) (old : List (Entry V)) → IsRangeMap eq low high old → IsMappedFrom (at old) l h → IsFilled eq low high (entry l h v) old old
 filled_none eq laws low high l h v old r s = record {
   range_map = r;
   content = λ k. same_along eq {a = at old k} refl (sym (filled_held (at old) v l h s k)) (same_itself eq laws (at old k));

@@ -1,5 +1,5 @@
 -- The gaps of a range get a value one by one.
-use Rattle.blaze_table.proofs.Words.{none_is_not, option_or, ◌≡◌, ℕ, ℤ, pos, ◌+ℤ◌, ◌-ℤ◌, ◌≤ℤ◌, ◌<ℤ◌, Bool, true, false, cond, List, [], Option, Some, None, refl, ◌∙◌, sym, ap, subst, arith, inl, inr, ◌↔◌, IsSome, IsTrue, IsEquivalence, Contains, ints, by_lt_z, same_along, same_itself, same_trans, some_of_same, none_of_same, AreKeys, IsCanonical, Entry, entry, at, holds, SameOption, SameContent, filled, AreStartsKept, IsFilled, IsHeldFrom, IsFirstGap, never, IsBeside, IsFilledBut, IsFilling, IsGapFilled, IsJoinedBut, IsOrdered, IsOrderedTable, IsClearFrom, painted}
+use Rattle.blaze_table.proofs.Words.{none_is_not, option_or, ◌≡◌, ℕ, ℤ, pos, ◌+ℤ◌, ◌-ℤ◌, ◌≤ℤ◌, ◌<ℤ◌, Bool, true, false, cond, List, [], Option, Some, None, refl, ◌∙◌, sym, ap, subst, arith, inl, inr, ◌↔◌, IsSome, IsTrue, IsEquivalence, Contains, ints, by_lt_z, same_along, same_itself, same_trans, some_of_same, none_of_same, AreKeys, IsCanonical, Entry, entry, at, holds, SameOption, SameContent, filled, AreStartsKept, IsFilled, IsMappedFrom, IsFirstGap, never_equal, IsBeside, IsFilledBut, IsFilling, IsGapFilled, IsJoinedBut, IsOrdered, IsOrderedTable, IsClearFrom, painted}
 use Rattle.blaze_table.proofs.Canonical.Counted.{keys_among}
 use Rattle.blaze_table.proofs.Canonical.Lookup.{by_place, holds_in, holds_under, holds_over}
 use Rattle.blaze_table.proofs.Canonical.Runs.{one_per_run}
@@ -25,7 +25,7 @@ module _ {V : Type 0} (eq : V → V → Bool) (laws : IsEquivalence eq) where
 
   -- The gap from a to b is painted, and the keys after it up to n have values. So everything up to n is filled.
   filled_more : (old cur new : ℤ → Option V) (v w : V) (l a b n : ℤ) → l ≤ℤ a → a ≤ℤ b → b ≤ℤ n → ((k : ℤ) → SameOption eq (cur k) (filled l (a -ℤ pos 1) v old k))
-      → IsClearFrom cur a b → IsHeldFrom cur (b +ℤ pos 1) n → ((k : ℤ) → SameOption eq (new k) (painted a b w cur k)) → eq v w ≡ true → (k : ℤ) → SameOption eq (new k) (filled l n v old k)
+      → IsClearFrom cur a b → IsMappedFrom cur (b +ℤ pos 1) n → ((k : ℤ) → SameOption eq (new k) (painted a b w cur k)) → eq v w ≡ true → (k : ℤ) → SameOption eq (new k) (filled l n v old k)
   filled_more old cur new v w l a b n o p q before clear held one like k = by_place (entry a b w) k
       (λ x y.
       let none : old k ≡ None = sym (filled_over old v l (a -ℤ pos 1) k (omega (arith, ints))) ∙ none_of_same eq (cur k) _ (before k) (clear k x y) in
@@ -64,8 +64,8 @@ module _ {V : Type 0} (eq : V → V → Bool) (laws : IsEquivalence eq) where
       not_in k (i, u, q) = omega arith
 
   -- before the first gap is filled
-  pub filling_first : (old : List (Entry V)) (a b h : ℤ) (v : V) (starts joints : List ℤ) → IsCanonical eq old → IsFirstGap (at old) a h a b → starts ≡ [] → joints ≡ [] → IsFilling eq a h v starts joints old old a b
-  filling_first old a b h v starts joints c g q r = subst (λ ss. IsFilling eq a h v ss joints old old a b) (sym q) (subst (λ js. IsFilling eq a h v [] js old old a b) (sym r) (record {
+  pub filling_first : (old : List (Entry V)) (a b h : ℤ) (v : V) (starts join_keys : List ℤ) → IsCanonical eq old → IsFirstGap (at old) a h a b → starts ≡ [] → join_keys ≡ [] → IsFilling eq a h v starts join_keys old old a b
+  filling_first old a b h v starts join_keys c g q r = subst (λ ss. IsFilling eq a h v ss join_keys old old a b) (sym q) (subst (λ js. IsFilling eq a h v [] js old old a b) (sym r) (record {
     content = λ k. same_along eq {a = at old k} refl (sym (filled_held (at old) v a (a -ℤ pos 1) (λ j x y. absurd (omega (arith, ints))) k)) (same_itself eq laws (at old k));
     kept = λ e x. x;
     from = omega (arith, ints);
@@ -77,8 +77,8 @@ module _ {V : Type 0} (eq : V → V → Bool) (laws : IsEquivalence eq) where
     back = record { there = tt; taken = refl };
   }))
 
-  module _ (low high l h a b : ℤ) (v w : V) (starts more joints all : List ℤ) (old cur new : List (Entry V)) (f : low ≤ℤ l) (top : h ≤ℤ high) (c : IsOrdered cur)
-      (i : IsFilling eq l h v starts joints old cur a b) (t u : Bool) (beside : IsBeside eq (at cur) v a b t u) (d : IsGapFilled a b w t u cur new starts more joints all) (like : eq v w ≡ true) where
+  module _ (low high l h a b : ℤ) (v w : V) (starts more join_keys all : List ℤ) (old cur new : List (Entry V)) (f : low ≤ℤ l) (top : h ≤ℤ high) (c : IsOrdered cur)
+      (i : IsFilling eq l h v starts join_keys old cur a b) (t u : Bool) (beside : IsBeside eq (at cur) v a b t u) (d : IsGapFilled a b w t u cur new starts more join_keys all) (like : eq v w ≡ true) where
     pub is_put : IsPut low high (entry a b w) cur new
     is_put = subst (IsPut low high (entry a b w) cur) (sym d.put) (put_in low high (entry a b w) (omega (arith, ints, i.from)) i.order (omega (arith, ints, i.to)) cur c i.clear)
 
@@ -86,7 +86,7 @@ module _ {V : Type 0} (eq : V → V → Bool) (laws : IsEquivalence eq) where
     one k = same_along eq {a = at new k} refl (is_put.content k) (same_itself eq laws (at new k))
 
     joined : IsJoinedBut eq all new
-    joined = joined_more eq laws low high a b w cur new i.order i.clear is_put t u (beside_like (at cur) v w a b t u like beside) joints d.half all d.below d.above i.joined
+    joined = joined_more eq laws low high a b w cur new i.order i.clear is_put t u (beside_like (at cur) v w a b t u like beside) join_keys d.half all d.below d.above i.joined
 
     over : (k : ℤ) → b <ℤ k → at new k ≡ at cur k
     over k m = new_over eq laws low high a b w cur new i.order i.clear is_put k m
@@ -117,7 +117,7 @@ module _ {V : Type 0} (eq : V → V → Bool) (laws : IsEquivalence eq) where
     }
 
     -- no gap remains
-    pub filling_last : IsHeldFrom (at cur) (b +ℤ pos 1) h → IsFilledBut eq l h v more all old new
+    pub filling_last : IsMappedFrom (at cur) (b +ℤ pos 1) h → IsFilledBut eq l h v more all old new
     filling_last s = record {
       content = filled_more (at old) (at cur) (at new) v w l a b h i.from i.order i.to i.content i.clear s one like;
       kept = λ x y. is_put.kept x (i.kept x y);
@@ -133,7 +133,7 @@ module _ {V : Type 0} (eq : V → V → Bool) (laws : IsEquivalence eq) where
     }
 
     pub room_more : (n : ℕ) → low ≤ℤ high → IsOrderedTable low high n cur → (pos n +ℤ ((b -ℤ a) +ℤ pos 1)) ≤ℤ ((high -ℤ low) +ℤ pos 1)
-    room_more n some r = omega (arith, ints, keys_among never low high new some is_put.ordered (is_put.are_keys r.are_keys), is_put.count, r.counted)
+    room_more n some r = omega (arith, ints, keys_among never_equal low high new some is_put.ordered (is_put.are_keys r.are_keys), is_put.count, r.counted)
 
   -- if the keys before a have values, the fill from a on is the whole fill
   filled_from : (content : ℤ → Option V) (v : V) (l a h : ℤ) → l ≤ℤ a → a ≤ℤ h → ((k : ℤ) → l ≤ℤ k → k <ℤ a → IsSome (content k)) → (k : ℤ) → filled a h v content k ≡ filled l h v content k
@@ -146,9 +146,9 @@ module _ {V : Type 0} (eq : V → V → Bool) (laws : IsEquivalence eq) where
       (λ m. filled_in content v a h k u m ∙ sym (filled_in content v l h k (omega (arith, ints)) m)))
 
   -- a list that is filled and then joined
-  pub filled_whole : (low high l h a b : ℤ) (v : V) (starts joints : List ℤ) (old put new : List (Entry V)) → IsCanonical eq old → IsFirstGap (at old) l h a b → IsFilledBut eq a h v starts joints old put
+  pub filled_whole : (low high l h a b : ℤ) (v : V) (starts join_keys : List ℤ) (old put new : List (Entry V)) → IsCanonical eq old → IsFirstGap (at old) l h a b → IsFilledBut eq a h v starts join_keys old put
       → SameContent eq new put → AreStartsKept eq (at put) put new → IsCanonical eq new → AreKeys low high new → IsFilled eq low high (entry l h v) old new
-  filled_whole low high l h a b v starts joints old put new d g f s t c k = record {
+  filled_whole low high l h a b v starts join_keys old put new d g f s t c k = record {
     range_map = record { runs = one_per_run eq laws new c; keys = k };
     content = λ j. same_trans eq laws (at new j) (at put j) (filled l h v (at old) j) (s j) (whole j);
     kept = are_kept eq laws (filled l h v (at old)) old new d c (λ j. same_trans eq laws (at new j) (at put j) (filled l h v (at old) j) (s j) (whole j))
@@ -159,5 +159,5 @@ module _ {V : Type 0} (eq : V → V → Bool) (laws : IsEquivalence eq) where
       whole j = same_along eq {a = at put j} refl (filled_from (at old) v l a h g.from (omega (arith, ints, g.order, g.to)) g.held j) (f.content j)
 
   -- if a gap exists, not each key has a value
-  pub gap_is_not_held : (old : List (Entry V)) (l h a b : ℤ) → IsFirstGap (at old) l h a b → IsHeldFrom (at old) l h → ⊥
+  pub gap_is_not_held : (old : List (Entry V)) (l h a b : ℤ) → IsFirstGap (at old) l h a b → IsMappedFrom (at old) l h → ⊥
   gap_is_not_held old l h a b g s = none_is_not (at old a) (g.clear a (omega (arith, ints)) g.order) (s a g.from (omega (arith, ints, g.order, g.to)))

@@ -24,7 +24,7 @@ module _ {V : Type 0} (eq : V → V → Bool) (laws : IsEquivalence eq) (low hig
   some_w : (o : Option V) → o ≡ Some w → IsSome o
   some_w o q = subst IsSome (sym q) refl
 
-  module _ (t u : Bool) (beside : IsBeside eq (at cur) w a b t u) (joints half all : List ℤ) (below : IsNoted t a joints half) (above : IsNoted u (b +ℤ pos 1) half all) (i : IsJoinedBut eq joints cur) where
+  module _ (t u : Bool) (beside : IsBeside eq (at cur) w a b t u) (join_keys half all : List ℤ) (below : IsNoted t a join_keys half) (above : IsNoted u (b +ℤ pos 1) half all) (i : IsJoinedBut eq join_keys cur) where
     before : at new (a -ℤ pos 1) ≡ at cur (a -ℤ pos 1)
     before = new_under (a -ℤ pos 1) (omega (arith, ints))
 

@@ -1,10 +1,10 @@
 -- Keys that have values, entry by entry.
-use Rattle.blaze_table.proofs.Words.{nat_of, ◌≡◌, ◌<◌, ℤ, ◌-ℤ◌, ◌≤ℤ◌, ◌<ℤ◌, Bool, true, false, cond, List, [], ◌∷◌, Some, refl, ◌∙◌, sym, subst, arith, IsSome, ints, nat_of-pos, Entry, at, entry_at, holds, IsHeldFrom}
+use Rattle.blaze_table.proofs.Words.{nat_of, ◌≡◌, ◌<◌, ℤ, ◌-ℤ◌, ◌≤ℤ◌, ◌<ℤ◌, Bool, true, false, cond, List, [], ◌∷◌, Some, refl, ◌∙◌, sym, subst, arith, IsSome, ints, nat_of-pos, Entry, at, entry_at, holds, IsMappedFrom}
 use Rattle.blaze_table.proofs.Canonical.Lookup.{by_place, entry_in, entry_under, entry_over, holds_in}
 
 module _ {V : Type 0} where
   -- the list has a value at each key of one of its entries
-  pub entry_held : (e : Entry V) (es : List (Entry V)) (k : ℤ) → Some e ≡ entry_at es k → IsHeldFrom (at es) e.lo e.hi
+  pub entry_held : (e : Entry V) (es : List (Entry V)) (k : ℤ) → Some e ≡ entry_at es k → IsMappedFrom (at es) e.lo e.hi
   entry_held e [] k p j l h = cc
   entry_held e (f ∷ fs) k p j l h = by_place f k
       (λ a b. let same : e ≡ f = cc (p, entry_in f fs k a b) in rw (holds_in f j (subst (λ (x : Entry V). x.lo ≤ℤ j) same l) (subst (λ (x : Entry V). j ≤ℤ x.hi) same h)) refl)

@@ -1,8 +1,8 @@
 -- An entry is joined with the previous one, which it touches and whose value is equal.
-use Rattle.blaze_table.proofs.Words.{none_is_not, ◌≡◌, ℤ, pos, ◌+ℤ◌, ◌-ℤ◌, ◌≤ℤ◌, ◌<ℤ◌, Bool, cond, true, false, List, [], ◌∷◌, ◌++◌, Option, Some, None, option_map, refl, ◌∙◌, sym, subst, ap, arith, inl, inr, IsSome, ints, by_lt_z, append_assoc, IsEquivalence, range_in, StartsAscend, last_below, start_at, with_end, without, none_from_map, same_along, same_back, same_itself, some_of_same, by_order, start_none, StartsBelow, more_below, AreKeys, HasStart, Entry, entry, at, entry_at, holds, SameOption, SameContent, IsKeptIn, never, IsJoint, IsJoinedAt, IsOrdered, IsLastBelow}
+use Rattle.blaze_table.proofs.Words.{none_is_not, ◌≡◌, ℤ, pos, ◌+ℤ◌, ◌-ℤ◌, ◌≤ℤ◌, ◌<ℤ◌, Bool, cond, true, false, List, [], ◌∷◌, ◌++◌, Option, Some, None, option_map, refl, ◌∙◌, sym, subst, ap, arith, inl, inr, IsSome, ints, by_lt_z, append_assoc, IsEquivalence, range_in, StartsAscend, last_below, start_at, with_end, without, none_from_map, same_along, same_back, same_itself, some_of_same, by_order, start_none, StartsBelow, more_below, AreKeys, HasStart, Entry, entry, at, entry_at, holds, SameOption, SameContent, IsKeptIn, never_equal, IsJoint, IsJoinedAt, IsOrdered, IsLastBelow}
 use Rattle.blaze_table.proofs.Canonical.Lookup.{IsAbove, IsAbove-from_apart, at_in, at_under, at_over, by_place, value-entry_at}
 use Rattle.blaze_table.proofs.Cuts.Splits.{no_last_from}
-use Rattle.blaze_table.proofs.Neighbours.Holders.{Holder, holder, there, end_moved, without-between, starts_behind}
+use Rattle.blaze_table.proofs.Neighbours.Holders.{Holder, entry_containing, there, end_moved, without-between, starts_behind}
 use Rattle.blaze_table.proofs.Neighbours.NextEntries.{holding_none, holding_some, holding_not}
 use Rattle.blaze_entries.proofs.EditLists.{start_skips}
 use Rattle.blaze_table.proofs.Paints.Kept.{by_first, first_in, later_in}
@@ -21,13 +21,13 @@ module _ {V : Type 0} (eq : V → V → Bool) (laws : IsEquivalence eq) (low hig
       → IsOne f.lo (e ∷ f ∷ fs) (entry e.lo f.hi e.value ∷ fs)
   one_here e f fs c k touch alike = record {
     joined = record {
-      ordered = (omega (arith, ints, c.0, c.2.0), apart_by (entry e.lo f.hi e.value) fs (IsAbove-from_apart never f fs c.2.1), c.2.2);
+      ordered = (omega (arith, ints, c.0, c.2.0), apart_by (entry e.lo f.hi e.value) fs (IsAbove-from_apart never_equal f fs c.2.1), c.2.2);
       are_keys = (k.0, k.2.1, k.2.2);
       count = omega (arith, ints);
       same = content;
       starts = λ j h. elim h [
         | inl p ↦ (inl p, λ q. omega (arith, ints, c.0))
-        | inr p ↦ (inr (inr p), λ q. let a = start_above f.hi j fs c.2.2 (IsAbove-from_apart never f fs c.2.1) p in omega (arith, ints, c.2.0))
+        | inr p ↦ (inr (inr p), λ q. let a = start_above f.hi j fs c.2.2 (IsAbove-from_apart never_equal f fs c.2.1) p in omega (arith, ints, c.2.0))
       ];
       kept = λ x h n. by_first e (f ∷ fs) x h
           (λ q. subst (IsKeptIn (entry e.lo f.hi e.value ∷ fs)) q (f.hi, omega (arith, ints, c.0, c.2.0), first_in (entry e.lo f.hi e.value) fs))
@@ -50,7 +50,7 @@ module _ {V : Type 0} (eq : V → V → Bool) (laws : IsEquivalence eq) (low hig
   one_behind : (s : ℤ) (d : Entry V) (old new : List (Entry V)) → IsOrdered (d ∷ old) → AreKeys low high (d ∷ old) → d.lo <ℤ s → IsOne s old new → IsOne s (d ∷ old) (d ∷ new)
   one_behind s d old new c k l i = record {
     joined = record {
-      ordered = (c.0, apart_by d new (i.above d.hi (IsAbove-from_apart never d old c.1)), i.joined.ordered);
+      ordered = (c.0, apart_by d new (i.above d.hi (IsAbove-from_apart never_equal d old c.1)), i.joined.ordered);
       are_keys = (k.0, k.1, i.joined.are_keys);
       count = omega (arith, ints, i.joined.count);
       same = λ j. both (holds d j) j;
@@ -99,7 +99,7 @@ module _ {V : Type 0} where
   -- no entry starts at s if the last one that starts up to s starts below it
   pub none_starts : (s low high a z : ℤ) (es : List (Entry V)) → StartsAscend low high es → IsOrdered es → IsLastBelow (s +ℤ pos 1) a z es → a <ℤ s → HasStart es s → ⊥
   none_starts s low high a z es u c p l h =
-      let i = holder never (s +ℤ pos 1) high es low a z u c p in
+      let i = entry_containing never_equal (s +ℤ pos 1) high es low a z u c p in
       let lo = i.lo in
       let rest = start_in i.of.lo s i.front (i.of ∷ i.back) i.front_starts (omega (arith, ints)) (subst (λ xs. HasStart xs s) i.parts h) in
       elim rest [
@@ -155,21 +155,21 @@ module _ {V : Type 0} where
     entry_before p =
         let next : s -ℤ pos 1 +ℤ pos 1 ≡ s = omega (arith, ints) in
         let none : None ≡ last_below (s -ℤ pos 1 +ℤ pos 1) es = sym (ap (λ x. last_below x es) next ∙ none_from_map range_in (last_below s es) p) in
-        none_is_not (at es (s -ℤ pos 1)) (none_at es (s -ℤ pos 1) (holding_none never (s -ℤ pos 1) low high es c u none)) value_before
+        none_is_not (at es (s -ℤ pos 1)) (none_at es (s -ℤ pos 1) (holding_none never_equal (s -ℤ pos 1) low high es c u none)) value_before
 
     -- the entry that starts at the joint, and the previous one
     module _ (a1 z1 a2 z2 : ℤ) (one : IsLastBelow (s +ℤ pos 1) a1 z1 es) (at_it : s ≤ℤ a1) (two : IsLastBelow s a2 z2 es) where
-      abbrev this : Holder never (s +ℤ pos 1) high es a1 z1
-      this = holder never (s +ℤ pos 1) high es low a1 z1 u c one
+      abbrev this : Holder never_equal (s +ℤ pos 1) high es a1 z1
+      this = entry_containing never_equal (s +ℤ pos 1) high es low a1 z1 u c one
 
-      abbrev that : Holder never s high es a2 z2
-      that = holder never s high es low a2 z2 u c two
+      abbrev that : Holder never_equal s high es a2 z2
+      that = entry_containing never_equal s high es low a2 z2 u c two
 
       pub starts_here : start_at s es ≡ Some this.of
       starts_here =
           let lo = this.lo in
           let is : a1 ≡ s = omega (arith, ints, this.starts) in
-          subst (λ x. start_at x es ≡ Some this.of) is (there never (s +ℤ pos 1) high es a1 z1 this)
+          subst (λ x. start_at x es ≡ Some this.of) is (there never_equal (s +ℤ pos 1) high es a1 z1 this)
 
       first : IsFirstOf s this.of that.back
       first = first_of s high this.of that.back that.back_starts
@@ -191,7 +191,7 @@ module _ {V : Type 0} where
 
       reaches : (s -ℤ pos 1) ≤ℤ that.of.hi
       reaches = by_lt_z that.of.hi (s -ℤ pos 1)
-          (λ l. absurd (none_is_not (at es (s -ℤ pos 1)) (none_at es (s -ℤ pos 1) (holding_not never (s -ℤ pos 1) low high es c u that.of last l)) value_before))
+          (λ l. absurd (none_is_not (at es (s -ℤ pos 1)) (none_at es (s -ℤ pos 1) (holding_not never_equal (s -ℤ pos 1) low high es c u that.of last l)) value_before))
           (λ l. l)
 
       touch : this.of.lo ≡ that.of.hi +ℤ pos 1
@@ -199,8 +199,8 @@ module _ {V : Type 0} where
 
       alike : eq that.of.value this.of.value ≡ true
       alike = same_along eq
-          (some_at es (s -ℤ pos 1) that.of (holding_some never (s -ℤ pos 1) low high es c u that.of last reaches))
-          (some_at es s this.of (holding_some never s low high es c u this.of (sym this.last) (omega (arith, ints, first.lo, both.2.0))))
+          (some_at es (s -ℤ pos 1) that.of (holding_some never_equal (s -ℤ pos 1) low high es c u that.of last reaches))
+          (some_at es s this.of (holding_some never_equal s low high es c u this.of (sym this.last) (omega (arith, ints, first.lo, both.2.0))))
           joint.1
 
       taken_from : without s es ≡ that.front ++ that.of ∷ first.rest
@@ -212,7 +212,7 @@ module _ {V : Type 0} where
       pub joined : (new : List (Entry V)) → new ≡ with_end a2 z1 (without s es) → IsJoinedAt eq low high s es new
       joined new q =
           let made : new ≡ that.front ++ entry that.of.lo this.of.hi that.of.value ∷ first.rest =
-          q ∙ ap (with_end a2 z1) taken_from ∙ end_moved never s high es a2 z2 that z1 first.rest
+          q ∙ ap (with_end a2 z1) taken_from ∙ end_moved never_equal s high es a2 z2 that z1 first.rest
           ∙ ap (λ x. that.front ++ entry that.of.lo x that.of.value ∷ first.rest) (sym this.hi) in
           let below = more_below that.of.lo this.of.lo that.front (omega (arith, ints, that.starts, first.lo)) that.front_starts in
           let i = one_in eq laws low high that.front that.of this.of first.rest (subst IsOrdered parts c) (subst (AreKeys low high) parts k) touch alike below in

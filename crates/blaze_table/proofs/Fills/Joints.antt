@@ -49,7 +49,7 @@ module _ {V : Type 0} (eq : V → V → Bool) (laws : IsEquivalence eq) where
       kept_further new e k.0 k.1 (j.kept (entry e.lo k.0 e.value) k.2 (λ q. r.1 (subst (λ i. SameOption eq (at start (i -ℤ pos 1)) (at start i)) (sym q) was.1)))
 
   -- no joint remains
-  pub joined_all : {T : Type 0} (rank : T → ℤ) (joints : List T) (es : List (Entry V)) → length joints ≡ 0 → IsOrdered es → IsJoinedBut eq (map rank joints) es → IsCanonical eq es
+  pub joined_all : {T : Type 0} (rank : T → ℤ) (join_keys : List T) (es : List (Entry V)) → length join_keys ≡ 0 → IsOrdered es → IsJoinedBut eq (map rank join_keys) es → IsCanonical eq es
   joined_all rank [] es q c i = canonical_by_starts eq es c (λ k h. elim (i.starts k h) [ inl r ↦ r | inr r ↦ absurd (not_in k r) ])
     where
       not_in : (k : ℤ) → Contains {X = ℤ} [] k → ⊥

@@ -1,5 +1,5 @@
 -- Ordered lists, whose touching entries may have equal values.
-use Rattle.blaze_table.proofs.Words.{none_is_not, ◌≡◌, ℕ, ℤ, pos, ◌-ℤ◌, ◌<ℤ◌, Bool, true, false, List, [], ◌∷◌, Option, Some, None, refl, ◌∙◌, sym, subst, arith, inl, inr, IsSome, ints, by_lt_z, same_along, IsApart, IsCanonical, IsRunStart, HasStart, Entry, at, SameOption, never, IsOrdered, IsOrderedTable, IsTable}
+use Rattle.blaze_table.proofs.Words.{none_is_not, ◌≡◌, ℕ, ℤ, pos, ◌-ℤ◌, ◌<ℤ◌, Bool, true, false, List, [], ◌∷◌, Option, Some, None, refl, ◌∙◌, sym, subst, arith, inl, inr, IsSome, ints, by_lt_z, same_along, IsApart, IsCanonical, IsRunStart, HasStart, Entry, at, SameOption, never_equal, IsOrdered, IsOrderedTable, IsTable}
 use Rattle.blaze_table.proofs.Canonical.Lookup.{IsAbove, IsAbove-from_apart, at_in, at_over, at_before}
 
 not_true : (b : Bool) → (b ≡ true → ⊥) → b ≡ false
@@ -7,7 +7,7 @@ not_true true h = absurd (h refl)
 not_true false h = refl
 
 module _ {V : Type 0} where
-  pub apart_by : (e : Entry V) (es : List (Entry V)) → IsAbove e.hi es → IsApart never e es
+  pub apart_by : (e : Entry V) (es : List (Entry V)) → IsAbove e.hi es → IsApart never_equal e es
   apart_by e [] a = tt
   apart_by e (f ∷ fs) a = (a, λ p. refl)
 
@@ -22,7 +22,7 @@ module _ {V : Type 0} where
   pub start_above : (b k : ℤ) (es : List (Entry V)) → IsOrdered es → IsAbove b es → HasStart es k → b <ℤ k
   start_above b k [] c a h = absurd h
   start_above b k (e ∷ es) c a (inl p) = omega (arith, ints)
-  start_above b k (e ∷ es) c a (inr q) = let r = start_above e.hi k es c.2 (IsAbove-from_apart never e es c.1) q in omega (arith, ints, c.0)
+  start_above b k (e ∷ es) c a (inr q) = let r = start_above e.hi k es c.2 (IsAbove-from_apart never_equal e es c.1) q in omega (arith, ints, c.0)
 
   -- an ordered list is canonical if each start is a run start
   pub canonical_by_starts : (eq : V → V → Bool) (es : List (Entry V)) → IsOrdered es → ((k : ℤ) → HasStart es k → IsRunStart eq (at es) k) → IsCanonical eq es
@@ -41,13 +41,13 @@ module _ {V : Type 0} where
 
       later : (k : ℤ) → HasStart es k → IsRunStart eq (at es) k
       later k h =
-          let above = start_above e.hi k es c.2 (IsAbove-from_apart never e es c.1) h in
+          let above = start_above e.hi k es c.2 (IsAbove-from_apart never_equal e es c.1) h in
           let r = s k (inr h) in
           let here : at (e ∷ es) k ≡ at es k = at_over e es k above in (
             subst IsSome here r.0,
             λ q. by_lt_z e.hi (k -ℤ pos 1)
                 (λ l. r.1 (same_along eq (sym (at_over e es (k -ℤ pos 1) l)) (sym here) q))
-                (λ l. none_against (at es (k -ℤ pos 1)) (at es k) (at_before never es e.hi (k -ℤ pos 1) c.2 (IsAbove-from_apart never e es c.1) l) (subst IsSome here r.0) q),
+                (λ l. none_against (at es (k -ℤ pos 1)) (at es k) (at_before never_equal es e.hi (k -ℤ pos 1) c.2 (IsAbove-from_apart never_equal e es c.1) l) (subst IsSome here r.0) q),
           )
         where
           none_against : (a b : Option V) → a ≡ None → IsSome b → SameOption eq a b → ⊥

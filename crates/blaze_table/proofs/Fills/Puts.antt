@@ -1,5 +1,5 @@
 -- An entry is inserted into a gap of an ordered list.
-use Rattle.blaze_table.proofs.Words.{◌≡◌, ℤ, pos, ◌+ℤ◌, ◌-ℤ◌, ◌≤ℤ◌, ◌<ℤ◌, Bool, cond, true, false, List, [], ◌∷◌, Option, Some, None, refl, ◌∙◌, sym, ap, arith, inl, inr, ◌⊎◌, Contains, ints, by_lt_z, start_at, with_entry, by_order, AreKeys, HasStart, keys_in, Entry, at, holds, never, IsOrdered, IsClearFrom, painted}
+use Rattle.blaze_table.proofs.Words.{◌≡◌, ℤ, pos, ◌+ℤ◌, ◌-ℤ◌, ◌≤ℤ◌, ◌<ℤ◌, Bool, cond, true, false, List, [], ◌∷◌, Option, Some, None, refl, ◌∙◌, sym, ap, arith, inl, inr, ◌⊎◌, Contains, ints, by_lt_z, start_at, with_entry, by_order, AreKeys, HasStart, keys_in, Entry, at, holds, never_equal, IsOrdered, IsClearFrom, painted}
 use Rattle.blaze_table.proofs.Canonical.Lookup.{IsAbove, IsAbove-from_apart, at_in, at_under, at_over, holds_under, holds_over, above_by}
 use Rattle.blaze_table.proofs.Paints.Kept.{by_first, same_in, later_in}
 use Rattle.blaze_table.proofs.Fills.Ordered.{apart_by}
@@ -29,7 +29,7 @@ module _ {V : Type 0} (low high : ℤ) (p : Entry V) where
     none_start : (es : List (Entry V)) → IsAbove p.hi es → IsOrdered es → start_at p.lo es ≡ None
     none_start [] a c = refl
     none_start (f ∷ fs) a c = by_order p.lo f.lo
-        (λ o q r. rw r (none_start fs (above_by f.hi p.hi fs (omega (arith, ints, c.0)) (IsAbove-from_apart never f fs c.1)) c.2))
+        (λ o q r. rw r (none_start fs (above_by f.hi p.hi fs (omega (arith, ints, c.0)) (IsAbove-from_apart never_equal f fs c.1)) c.2))
         (λ o q r. absurd (omega (arith, ints)))
         (λ o q r. absurd (omega (arith, ints)))
 
@@ -49,7 +49,7 @@ module _ {V : Type 0} (low high : ℤ) (p : Entry V) where
     -- after an entry that ends below it
     put_behind : (f : Entry V) (fs new : List (Entry V)) → IsOrdered (f ∷ fs) → f.hi <ℤ p.lo → IsPut fs new → IsPut (f ∷ fs) (f ∷ new)
     put_behind f fs new c l i = record {
-      ordered = (c.0, apart_by f new (i.above f.hi (IsAbove-from_apart never f fs c.1) l), i.ordered);
+      ordered = (c.0, apart_by f new (i.above f.hi (IsAbove-from_apart never_equal f fs c.1) l), i.ordered);
       above = λ b x m. x;
       are_keys = λ k. (k.0, k.1, i.are_keys k.2);
       count = omega (arith, ints, i.count);

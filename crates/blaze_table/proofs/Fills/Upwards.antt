@@ -1,5 +1,5 @@
 -- A walk up the entries of an ordered list: the keys that have values so far, and the first gap.
-use Rattle.blaze_table.proofs.Words.{◌≡◌, ℤ, pos, ◌+ℤ◌, ◌-ℤ◌, ◌≤ℤ◌, ◌<ℤ◌, Bool, true, false, List, [], ◌∷◌, Option, Some, None, refl, ◌∙◌, sym, subst, ap, arith, inl, inr, ◌⊎◌, ◌↔◌, IsSome, IsTrue, ints, by_lt_z, same_along, AreKeys, ending_from, Entry, at, SameOption, IsHeldFrom, never, IsGapEnd, IsNextGap, IsOrdered}
+use Rattle.blaze_table.proofs.Words.{◌≡◌, ℤ, pos, ◌+ℤ◌, ◌-ℤ◌, ◌≤ℤ◌, ◌<ℤ◌, Bool, true, false, List, [], ◌∷◌, Option, Some, None, refl, ◌∙◌, sym, subst, ap, arith, inl, inr, ◌⊎◌, ◌↔◌, IsSome, IsTrue, ints, by_lt_z, same_along, AreKeys, ending_from, Entry, at, SameOption, IsMappedFrom, never_equal, IsGapEnd, IsNextGap, IsOrdered}
 use Rattle.blaze_table.proofs.Canonical.Lookup.{IsAbove, IsAbove-from_apart, at_in, at_under, at_over, at_before, by_place}
 use Rattle.blaze_table.proofs.Neighbours.Ending.{ending_all, ending_skips, ending_takes}
 
@@ -24,7 +24,7 @@ module _ {V : Type 0} where
 
   -- the entries that end at p or above are the whole list if the first one does
   ending_whole : (p : ℤ) (e : Entry V) (es : List (Entry V)) → IsOrdered (e ∷ es) → p ≤ℤ e.hi → ending_from p (e ∷ es) ≡ e ∷ es
-  ending_whole p e es c l = ending_takes p e es l ∙ ap (λ t. e ∷ t) (ending_all never p e.hi es c.2 l (IsAbove-from_apart never e es c.1))
+  ending_whole p e es c l = ending_takes p e es l ∙ ap (λ t. e ∷ t) (ending_all never_equal p e.hi es c.2 l (IsAbove-from_apart never_equal e es c.1))
 
   ending_ordered : (p : ℤ) (es : List (Entry V)) → IsOrdered es → IsOrdered (ending_from p es)
   ending_ordered p [] c = tt
@@ -79,7 +79,7 @@ module _ {V : Type 0} (eq : V → V → Bool) (v : V) where
     pub ordered : IsOrdered rest
     pub ends : IsEndingFrom (key -ℤ pos 1) rest
     pub from : l ≤ℤ key
-    pub held : IsHeldFrom content l (key -ℤ pos 1)
+    pub held : IsMappedFrom content l (key -ℤ pos 1)
     pub same : (k : ℤ) → key ≤ℤ k → content k ≡ at rest k
     pub last : (at rest (key -ℤ pos 1) ≡ None) ⊎ (content (key -ℤ pos 1) ≡ at rest (key -ℤ pos 1))
     pub below : at rest (key -ℤ pos 1) ≡ None → IsTrue t ↔ SameOption eq (content (key -ℤ pos 1)) (Some v)
@@ -112,7 +112,7 @@ module _ {V : Type 0} (eq : V → V → Bool) (v : V) where
     module _ (e : Entry V) (es : List (Entry V)) (w : IsWalked content l key t (e ∷ es)) where
       -- the next entry starts at `key` or below
       module _ (near : e.lo ≤ℤ key) where
-        pub walked_held : (h : ℤ) → h ≤ℤ e.hi → IsHeldFrom content l h
+        pub walked_held : (h : ℤ) → h ≤ℤ e.hi → IsMappedFrom content l h
         walked_held h o k a b = by_lt_z k key
             (λ x. w.held k a (omega (arith, ints)))
             (λ x. subst IsSome (sym (w.same k x ∙ at_in e es k (omega (arith, ints)) (omega (arith, ints)))) refl)
@@ -130,21 +130,21 @@ module _ {V : Type 0} (eq : V → V → Bool) (v : V) where
 
         pub walked_next : (j : ℤ) (s : Bool) → j ≡ e.hi +ℤ pos 1 → s ≡ eq e.value v → IsWalked content l j s es
         walked_next j s q r =
-            let above = IsAbove-from_apart never e es w.ordered.1 in
+            let above = IsAbove-from_apart never_equal e es w.ordered.1 in
             let is : e.hi ≡ j -ℤ pos 1 = omega (arith, ints) in record {
               ordered = w.ordered.2;
               ends = subst (λ k. IsEndingFrom k es) is (ends_above e.hi es w.ordered.2 above);
               from = omega (arith, ints, w.from, w.ends);
               held = walked_held (j -ℤ pos 1) (omega (arith, ints));
               same = λ k x. w.same k (omega (arith, ints, w.ends)) ∙ at_over e es k (omega (arith, ints));
-              last = inl (at_before never es e.hi (j -ℤ pos 1) w.ordered.2 above (omega (arith, ints)));
+              last = inl (at_before never_equal es e.hi (j -ℤ pos 1) w.ordered.2 above (omega (arith, ints)));
               below = λ _. equal_is (content (j -ℤ pos 1)) e.value s (subst (λ k. content k ≡ Some e.value) is value_last) r;
             }
 
       -- the next entry starts above it, and the gap ends at b
       module _ (b h : ℤ) (g : IsGapEnd key h e.lo b) where
         none_before : (k : ℤ) → k <ℤ e.lo → at (e ∷ es) k ≡ None
-        none_before k x = at_before never (e ∷ es) (e.lo -ℤ pos 1) k w.ordered (omega (arith, ints)) (omega (arith, ints))
+        none_before k x = at_before never_equal (e ∷ es) (e.lo -ℤ pos 1) k w.ordered (omega (arith, ints)) (omega (arith, ints))
 
         value_next : e.lo ≡ b +ℤ pos 1 → content (b +ℤ pos 1) ≡ Some e.value
         value_next q = w.same (b +ℤ pos 1) (omega (arith, ints, g.order)) ∙ at_in e es (b +ℤ pos 1) (omega (arith, ints)) (omega (arith, ints, w.ordered.0))

@@ -51,15 +51,15 @@ module _ {V : Type 0} (eq : V → V → Bool) where
   pub ending_held : (k : ℤ) (e : Entry V) (es : List (Entry V)) → IsCanonical eq es → Some e ≡ entry_at es k → from e.lo es ≡ ending_from k es
   ending_held k e [] c p = cc
   ending_held k e (d ∷ ds) c p =
-      let rest = IsAbove-from_apart eq d ds c.1 in
+      let tail = IsAbove-from_apart eq d ds c.1 in
       by_place d k
       (λ l h.
       let same : d ≡ e = cc (p, entry_in d ds k l h) in
       subst (λ (x : Entry V). from x.lo (d ∷ ds) ≡ ending_from k (d ∷ ds)) same
-      (from_takes d.lo d ds (omega (arith, ints)) ∙ ap (λ t. d ∷ t) (from_all_above d.lo d.hi ds c.2 (omega (arith, ints, c.0)) rest)
-      ∙ sym (ending_takes k d ds h ∙ ap (λ t. d ∷ t) (ending_all k d.hi ds c.2 h rest))))
+      (from_takes d.lo d ds (omega (arith, ints)) ∙ ap (λ t. d ∷ t) (from_all_above d.lo d.hi ds c.2 (omega (arith, ints, c.0)) tail)
+      ∙ sym (ending_takes k d ds h ∙ ap (λ t. d ∷ t) (ending_all k d.hi ds c.2 h tail))))
       (λ l. cc (ap (option_map (λ (x : Entry V). x.value)) p, value-entry_at (d ∷ ds) k, at_before eq (d ∷ ds) k k c l (omega (arith, ints))))
       (λ h.
       let q = p ∙ entry_over d ds k h in
-      let over = above_found k d.hi e ds c.2 rest q in
+      let over = above_found k d.hi e ds c.2 tail q in
       from_skips e.lo d ds (omega (arith, ints, c.0)) ∙ ending_held k e ds c.2 q ∙ sym (ending_skips k d ds h))

@@ -1,5 +1,5 @@
 -- The last entry that starts below a key: found by its start, and shortened below the key.
-use Rattle.blaze_table.proofs.Words.{◌≡◌, ℤ, pos, ◌-ℤ◌, ◌≤ℤ◌, ◌<ℤ◌, Bool, List, [], ◌∷◌, ◌++◌, Option, Some, None, refl, ◌∙◌, sym, ap, arith, int_lt, int_le, option_map, ints, subst, append-nil, append_assoc, filter-append, shown_found, range_in, shown_ends, RangeEntry, StartsAscend, below, from, last_below, start_at, with_end, by_order, StartsBelow, below_takes, below_skips, below_all, below_none, from_skips, from_none, from_all, more_below, halves, Entry, entry, IsCanonical, IsLeft, before, IsBelow}
+use Rattle.blaze_table.proofs.Words.{◌≡◌, ℤ, pos, ◌-ℤ◌, ◌≤ℤ◌, ◌<ℤ◌, Bool, List, [], ◌∷◌, ◌++◌, Option, Some, None, refl, ◌∙◌, sym, ap, arith, int_lt, int_le, option_map, ints, subst, append-nil, append_assoc, filter-append, shown_found, range_in, shown_ends, RangeEntry, StartsAscend, below, from, last_below, start_at, with_end, by_order, StartsBelow, below_takes, below_skips, below_all, below_none, from_skips, from_none, from_all, more_below, halves, Entry, entry, IsCanonical, IsPredecessor, before, IsBelow}
 use Rattle.blaze_table.proofs.Paints.Splices.{before_cuts, before_keeps, below_more}
 use Rattle.blaze_table.proofs.Paints.Painted.{before_past}
 use Rattle.blaze_table.proofs.Cuts.Splits.{LastAt, last_at, no_last, ends_below}
@@ -82,11 +82,11 @@ module _ {V : Type 0} (eq : V → V → Bool) (k low high : ℤ) (es : List (Ent
         ∙ sym (ap (λ t. t ++ from k es) (ap (before k) b ∙ before_past k i.front (r.found ∷ []) (front_ends r i) ∙ ap (λ t. i.front ++ t) (before_cuts k r.found [] (omega (arith, ints)) (omega (arith, ints)))) ∙ ap (λ t. (i.front ++ cut ∷ []) ++ t) (from_last k high r.found es i))
 
 -- an entry that a lookup returned as the last below a key
-pub left_is : {T V : Type 0} (rank : T → ℤ) (test : V → Bool) (l low high : ℤ) (es : List (Entry V)) → StartsAscend low high es → (left : Option (RangeEntry T Bool))
-    → option_map (shown_found rank) left ≡ option_map (λ e. (e.lo, e.hi, test e.value)) (last_below l es) → IsLeft l (below l es) (option_map (shown_ends rank) left)
-left_is {T} {V} rank test l low high es s left q = by_both left (last_below l es) refl q
+pub left_is : {T V : Type 0} (rank : T → ℤ) (test : V → Bool) (l low high : ℤ) (es : List (Entry V)) → StartsAscend low high es → (predecessor : Option (RangeEntry T Bool))
+    → option_map (shown_found rank) predecessor ≡ option_map (λ e. (e.lo, e.hi, test e.value)) (last_below l es) → IsPredecessor l (below l es) (option_map (shown_ends rank) predecessor)
+left_is {T} {V} rank test l low high es s predecessor q = by_both predecessor (last_below l es) refl q
   where
-    by_both : (left : Option (RangeEntry T Bool)) (o : Option (Entry V)) → last_below l es ≡ o → option_map (shown_found rank) left ≡ option_map (λ e. (e.lo, e.hi, test e.value)) o → IsLeft l (below l es) (option_map (shown_ends rank) left)
+    by_both : (predecessor : Option (RangeEntry T Bool)) (o : Option (Entry V)) → last_below l es ≡ o → option_map (shown_found rank) predecessor ≡ option_map (λ e. (e.lo, e.hi, test e.value)) o → IsPredecessor l (below l es) (option_map (shown_ends rank) predecessor)
     by_both None None p q = subst (λ xs. before l xs ≡ xs) (sym (no_last l low high es s p)) refl
     by_both None (Some e) p q = cc
     by_both (Some f) None p q = cc

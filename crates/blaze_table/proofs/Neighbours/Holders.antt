@@ -55,8 +55,8 @@ module _ {V : Type 0} (eq : V → V → Bool) (b high : ℤ) (es : List (Entry V
     pub back_starts : StartsAscend b high back
     pub back_over : StartsAscend (of.hi +ℤ pos 1) high back
 
-  pub holder : (low s z : ℤ) → StartsAscend low high es → IsCanonical eq es → IsLastBelow b s z es → Holder s z
-  holder low s z a c p = by_last (last_below b es) refl p
+  pub entry_containing : (low s z : ℤ) → StartsAscend low high es → IsCanonical eq es → IsLastBelow b s z es → Holder s z
+  entry_containing low s z a c p = by_last (last_below b es) refl p
     where
       by_last : (o : Option (Entry V)) → last_below b es ≡ o → Some (s, z) ≡ option_map range_in o → Holder s z
       by_last None q p = cc

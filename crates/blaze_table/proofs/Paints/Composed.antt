@@ -1,5 +1,5 @@
 -- The edits of a paint in place, one after another.
-use Rattle.blaze_table.proofs.Words.{◌≡◌, ℤ, pos, ◌+ℤ◌, ◌-ℤ◌, ◌≤ℤ◌, ◌<ℤ◌, Bool, List, [], ◌∷◌, ◌++◌, length, Option, Some, None, refl, ◌∙◌, sym, subst, ap, arith, int_lt, int_le, option_map, ints, by_lt_z, append_assoc, append-nil, filter-append, Contains, Contains-append_right, StartsAscend, below, from, last_below, start_at, with_end, StartsBelow, below_takes, from_skips, below_all, below_none, from_none, more_below, starts_below, halves, range_in, shown_ends, RangeEntry, IsLeft, Entry, entry, IsCanonical, inner, IsRestKept, IsStartPut, IsPutAt, IsEndPut, before, IsRangeTaken}
+use Rattle.blaze_table.proofs.Words.{◌≡◌, ℤ, pos, ◌+ℤ◌, ◌-ℤ◌, ◌≤ℤ◌, ◌<ℤ◌, Bool, List, [], ◌∷◌, ◌++◌, length, Option, Some, None, refl, ◌∙◌, sym, subst, ap, arith, int_lt, int_le, option_map, ints, by_lt_z, append_assoc, append-nil, filter-append, Contains, Contains-append_right, StartsAscend, below, from, last_below, start_at, with_end, StartsBelow, below_takes, from_skips, below_all, below_none, from_none, more_below, starts_below, halves, range_in, shown_ends, RangeEntry, IsPredecessor, Entry, entry, IsCanonical, inner_entries, AreOtherEntriesKept, IsEntrySet, IsEntryBetween, IsEntryExtended, before, IsRangeTaken}
 use Rattle.blaze_table.proofs.Paints.Splices.{by_before, before_ends, before_keeps, before_cuts}
 use Rattle.blaze_table.proofs.Cuts.Splits.{last_at, from_at}
 use Rattle.blaze_table.proofs.Neighbours.Growing.{last_there, below_last, front_last}
@@ -37,10 +37,10 @@ module _ {V : Type 0} (eq : V → V → Bool) where
     pub trimmed_start : start_at l third ≡ start_at l new
     trimmed_start = start_trimmed l (before l (below l new)) new third (starts_before l (below l new) c) q
 
-    pub trimmed_inner : length (inner l z third) ≡ length (inner l z new)
+    pub trimmed_inner : length (inner_entries l z third) ≡ length (inner_entries l z new)
     trimmed_inner = inner_same l z third new (from_trimmed l (before l (below l new)) new third (starts_before l (below l new) c) q)
 
-  pub rest_below : (l z : ℤ) (old new : List (Entry V)) → IsRestKept eq (l -ℤ pos 1) z old new → below l new ≡ below l old
+  pub rest_below : (l z : ℤ) (old new : List (Entry V)) → AreOtherEntriesKept eq (l -ℤ pos 1) z old new → below l new ≡ below l old
   rest_below l z old new r = let q : (l -ℤ pos 1) +ℤ pos 1 ≡ l = omega (arith, ints) in subst (λ x. below x new ≡ below x old) q r.below
 
   module _ (low high : ℤ) (es : List (Entry V)) (s : StartsAscend low high es) (c : IsCanonical eq es) where
@@ -49,7 +49,7 @@ module _ {V : Type 0} (eq : V → V → Bool) where
     under_canonical l c2 q = subst (IsCanonical eq) (sym q) (canonical_below l low high es s c)
 
     -- a range is removed
-    pub taken_out : (l z : ℤ) → l ≤ℤ z → (c2 c3 c4 : List (Entry V)) → IsRestKept eq (l -ℤ pos 1) z es c2 → c3 ≡ before l (below l c2) ++ from l c2 → c4 ≡ below l c3 ++ from (z +ℤ pos 1) c3 → IsRangeTaken eq l z es c4
+    pub taken_out : (l z : ℤ) → l ≤ℤ z → (c2 c3 c4 : List (Entry V)) → AreOtherEntriesKept eq (l -ℤ pos 1) z es c2 → c3 ≡ before l (below l c2) ++ from l c2 → c4 ≡ below l c3 ++ from (z +ℤ pos 1) c3 → IsRangeTaken eq l z es c4
     taken_out l z w c2 c3 c4 r q t =
         let front = before l (below l es) in
         let front_below = starts_before l (below l es) (canonical_below l low high es s c) in
@@ -67,12 +67,12 @@ module _ {V : Type 0} (eq : V → V → Bool) where
         }
 
     -- an entry is inserted at l
-    module _ (l z : ℤ) (v : V) (w : l ≤ℤ z) (c2 : List (Entry V)) (r : IsStartPut eq (entry l z v) es c2) where
+    module _ (l z : ℤ) (v : V) (w : l ≤ℤ z) (c2 : List (Entry V)) (r : IsEntrySet eq (entry l z v) es c2) where
       abbrev p : Entry V
       p = entry l z v
 
-      pub put_at : StartsAscend low high c2 → (c3 c4 : List (Entry V)) → c3 ≡ before l (below l c2) ++ from l c2 → c4 ≡ below (l +ℤ pos 1) c3 ++ from (z +ℤ pos 1) c3 → IsPutAt eq p es c4
-      put_at s2 c3 c4 q t =
+      pub set_entry : StartsAscend low high c2 → (c3 c4 : List (Entry V)) → c3 ≡ before l (below l c2) ++ from l c2 → c4 ≡ below (l +ℤ pos 1) c3 ++ from (z +ℤ pos 1) c3 → IsEntryBetween eq p es c4
+      set_entry s2 c3 c4 q t =
           let front = before l (below l es) in
           let above = from (z +ℤ pos 1) c2 in
           let front_below = starts_before l (below l es) (canonical_below l low high es s c) in
@@ -101,7 +101,7 @@ module _ {V : Type 0} (eq : V → V → Bool) where
       pub under : f <ℤ l
       pub parts : below l es ≡ below f es ++ of ∷ []
 
-    pub left_at : {T : Type 0} (rank : T → ℤ) (l f : ℤ) (left : Option (RangeEntry T Bool)) → IsLeft l (below l es) (option_map (shown_ends rank) left) → option_map (λ x. rank x.start) left ≡ Some f → IsLeftAt l f
+    pub left_at : {T : Type 0} (rank : T → ℤ) (l f : ℤ) (predecessor : Option (RangeEntry T Bool)) → IsPredecessor l (below l es) (option_map (shown_ends rank) predecessor) → option_map (λ x. rank x.start) predecessor ≡ Some f → IsLeftAt l f
     left_at {T} rank l f None i q = cc
     left_at {T} rank l f (Some x) i q = by_last (last_below l es) refl i
       where
@@ -120,7 +120,7 @@ module _ {V : Type 0} (eq : V → V → Bool) where
               parts = below_last l high e es t ∙ ap (λ xs. xs ++ e ∷ []) (sym (front_last l high e es t) ∙ ap (λ k. below k es) here);
             }
 
-    pub extended : (l f z : ℤ) (i : IsLeftAt l f) (c1 c2 c3 : List (Entry V)) → IsRestKept eq (l -ℤ pos 1) z es c1 → c2 ≡ below l c1 ++ from (z +ℤ pos 1) c1 → c3 ≡ with_end f z c2 → IsEndPut eq f z es c3
+    pub extended : (l f z : ℤ) (i : IsLeftAt l f) (c1 c2 c3 : List (Entry V)) → AreOtherEntriesKept eq (l -ℤ pos 1) z es c1 → c2 ≡ below l c1 ++ from (z +ℤ pos 1) c1 → c3 ≡ with_end f z c2 → IsEntryExtended eq f z es c3
     extended l f z i c1 c2 c3 r q t =
         let e = i.of in
         let here = (from_at f low high e es s i.found).0 in

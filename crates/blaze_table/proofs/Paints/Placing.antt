@@ -1,5 +1,5 @@
 -- The inserts of an edit, over plain lists.
-use Rattle.blaze_table.proofs.Words.{◌≡◌, ℤ, pos, ◌+ℤ◌, ◌-ℤ◌, ◌≤ℤ◌, ◌<ℤ◌, Bool, true, false, cond, List, [], ◌∷◌, Option, Some, None, refl, ◌∙◌, sym, subst, ap, arith, ⊎_elim, IsSome, IfSome, IsSomeAnd, Contains, last_or, option_map, int_eq, IsEquivalence, ints, by_lt_z, shown_ends, below, from, last_below, start_at, with_entry, without, with_end_value, IsStartMoved, IsFrontReplaced, Plan, RangeEntry, by_order, one_value, below_takes, below_skips, Entry, entry, SameEntries, IsCanonical, HasRoom, IsLikeRest, IsPlace, IsRestPut, IsRest, IsRestOf, IsRestKept, IsStartPut, after, IsSameAbove}
+use Rattle.blaze_table.proofs.Words.{◌≡◌, ℤ, pos, ◌+ℤ◌, ◌-ℤ◌, ◌≤ℤ◌, ◌<ℤ◌, Bool, true, false, cond, List, [], ◌∷◌, Option, Some, None, refl, ◌∙◌, sym, subst, ap, arith, ⊎_elim, IsSome, IfSome, IsSomeAnd, Contains, last_or, option_map, int_eq, IsEquivalence, ints, by_lt_z, shown_ends, below, from, last_below, start_at, with_entry, without, with_end_value, IsStartMoved, IsFrontReplaced, Plan, RangeEntry, by_order, one_value, below_takes, below_skips, Entry, entry, SameEntries, IsCanonical, HasRoom, IsLikeTail, IsEditPlan, IsTailSplit, IsTail, IsEntryAcross, AreOtherEntriesKept, IsEntrySet, after, IsSameAbove}
 use Rattle.blaze_table.proofs.Paints.Clearing.{below_below}
 use Rattle.blaze_entries.proofs.EditLists.{below_with, from_with_under, from_with, start_with, start_beside, without_with, start_beside_without, below_without, from_without, below_replaced, from_replaced, start_replaced, start_beside_replaced, start_below}
 use Rattle.blaze_table.proofs.Canonical.Lookup.{IsAbove, IsAbove-from_apart}
@@ -111,9 +111,9 @@ module _ {V : Type 0} (eq : V → V → Bool) (laws : IsEquivalence eq) where
       }
 
   -- the part above z, after it became a separate entry
-  rest_like : (z s t : ℤ) (old above : List (Entry V)) (r : IsRestOf z old s t) (v : V) → eq r.of.value v ≡ true → above ≡ entry (z +ℤ pos 1) t v ∷ from (z +ℤ pos 1) old → IsSameAbove eq z old above
+  rest_like : (z s t : ℤ) (old above : List (Entry V)) (r : IsEntryAcross z old s t) (v : V) → eq r.of.value v ≡ true → above ≡ entry (z +ℤ pos 1) t v ∷ from (z +ℤ pos 1) old → IsSameAbove eq z old above
   rest_like z s t old above r v i made = record {
-    alike = subst (λ x. SameEntries eq (after z old) x) (sym made) (subst (λ x. SameEntries eq x (entry (z +ℤ pos 1) t v ∷ from (z +ℤ pos 1) old)) (sym r.rest) (refl, r.ends, i, entries_themselves eq laws (from (z +ℤ pos 1) old)));
+    alike = subst (λ x. SameEntries eq (after z old) x) (sym made) (subst (λ x. SameEntries eq x (entry (z +ℤ pos 1) t v ∷ from (z +ℤ pos 1) old)) (sym r.tail) (refl, r.ends, i, entries_themselves eq laws (from (z +ℤ pos 1) old)));
     kept = λ e c u. subst (λ es. Contains es e) (sym made) (later_in (entry (z +ℤ pos 1) t v) (from (z +ℤ pos 1) old) e (in_from (z +ℤ pos 1) old e c (omega (arith, ints))));
   }
 
@@ -125,10 +125,10 @@ module _ {V : Type 0} (eq : V → V → Bool) (laws : IsEquivalence eq) where
 
   -- the entries that start up to k are unchanged, and the part above z starts above z
   module _ (l k z : ℤ) (w : k ≤ℤ z) (old c : List (Entry V)) (over : from (z +ℤ pos 1) c ≡ from (z +ℤ pos 1) old) where
-    pub rest_put : (rest : Option (ℤ × ℤ)) (above : Option V) (new : List (Entry V)) → IsRest z old rest → HasRoom z c rest → IfSome rest (λ r. (start_at r.0 c ≡ start_at r.0 old) × (l ≤ℤ r.0 → k <ℤ r.0))
-        → IsLikeRest eq l old rest above → IsRestPut l z rest above c new → (below (k +ℤ pos 1) new ≡ below (k +ℤ pos 1) c) × IsSameAbove eq z old (from (z +ℤ pos 1) new)
+    pub rest_put : (tail : Option (ℤ × ℤ)) (above : Option V) (new : List (Entry V)) → IsTail z old tail → HasRoom z c tail → IfSome tail (λ r. (start_at r.0 c ≡ start_at r.0 old) × (l ≤ℤ r.0 → k <ℤ r.0))
+        → IsLikeTail eq l old tail above → IsTailSplit l z tail above c new → (below (k +ℤ pos 1) new ≡ below (k +ℤ pos 1) c) × IsSameAbove eq z old (from (z +ℤ pos 1) new)
     rest_put None above new r room u like q = (ap (below (k +ℤ pos 1)) q, none_like z old (from (z +ℤ pos 1) new) r (ap (from (z +ℤ pos 1)) q ∙ over))
-    rest_put (Some ends) above new r room u like q = ⊎_elim (λ p. put_in above (like p.0 r.of r.found) p.1) (λ p. moved p.0 p.1) q
+    rest_put (Some ends) above new r room u like q = ⊎_elim (λ p. put_in above (like p.0 r.of r.found) p.1) (λ p. moved_count p.0 p.1) q
       where
         put_in : (o : Option V) → IsSomeAnd o (λ v. eq r.of.value v ≡ true) → IsSomeAnd o (λ v. new ≡ with_entry (entry (z +ℤ pos 1) ends.1 v) c)
             → (below (k +ℤ pos 1) new ≡ below (k +ℤ pos 1) c) × IsSameAbove eq z old (from (z +ℤ pos 1) new)
@@ -139,8 +139,8 @@ module _ {V : Type 0} (eq : V → V → Bool) (laws : IsEquivalence eq) where
               rest_like z ends.0 ends.1 old (from (z +ℤ pos 1) new) r v i (ap (from (z +ℤ pos 1)) n ∙ from_with p c room.2 ∙ ap (λ x. p ∷ x) over),
             )
 
-        moved : l ≤ℤ ends.0 → IsStartMoved ends.0 (z +ℤ pos 1) c new → (below (k +ℤ pos 1) new ≡ below (k +ℤ pos 1) c) × IsSameAbove eq z old (from (z +ℤ pos 1) new)
-        moved a m =
+        moved_count : l ≤ℤ ends.0 → IsStartMoved ends.0 (z +ℤ pos 1) c new → (below (k +ℤ pos 1) new ≡ below (k +ℤ pos 1) c) × IsSameAbove eq z old (from (z +ℤ pos 1) new)
+        moved_count a m =
             let up = r.starts in
             let t = moved_over k ends.0 (z +ℤ pos 1) c new (u.1 a) (omega (arith, ints)) room.2 m in
             let one : t.of ≡ r.of = one_value (start_at ends.0 old) (sym u.0 ∙ t.found) r.found in (
@@ -149,41 +149,41 @@ module _ {V : Type 0} (eq : V → V → Bool) (laws : IsEquivalence eq) where
                   (t.over ∙ ap (λ (x : Entry V). entry (z +ℤ pos 1) x.hi x.value ∷ from (z +ℤ pos 1) c) one ∙ ap (λ x. entry (z +ℤ pos 1) x r.of.value ∷ from (z +ℤ pos 1) c) r.ends ∙ ap (λ x. entry (z +ℤ pos 1) ends.1 r.of.value ∷ x) over),
             )
 
-  pub has_room : (z : ℤ) (es : List (Entry V)) (rest : Option (ℤ × ℤ)) → IsRest z es rest → HasRoom z es rest
+  pub has_room : (z : ℤ) (es : List (Entry V)) (tail : Option (ℤ × ℤ)) → IsTail z es tail → HasRoom z es tail
   has_room z es None r = tt
   has_room z es (Some e) r = (r.over, is_there (start_at e.0 es) r.found, r.none)
 
   -- the entry at k and those below it remain if an entry that starts above k is moved
-  pub rest_kept : (l k z : ℤ) → k ≤ℤ z → (old new : List (Entry V)) (rest : Option (ℤ × ℤ)) (above : Option V) → IsRest z old rest → IfSome rest (λ r. l ≤ℤ r.0 → k <ℤ r.0) → IsLikeRest eq l old rest above → IsRestPut l z rest above old new → IsRestKept eq k z old new
-  rest_kept l k z w old new rest above r u like q =
-      let t = rest_put l k z w old old refl rest above new r (has_room z old rest r) (beside rest u) like q in
+  pub rest_kept : (l k z : ℤ) → k ≤ℤ z → (old new : List (Entry V)) (tail : Option (ℤ × ℤ)) (above : Option V) → IsTail z old tail → IfSome tail (λ r. l ≤ℤ r.0 → k <ℤ r.0) → IsLikeTail eq l old tail above → IsTailSplit l z tail above old new → AreOtherEntriesKept eq k z old new
+  rest_kept l k z w old new tail above r u like q =
+      let t = rest_put l k z w old old refl tail above new r (has_room z old tail r) (beside tail u) like q in
       record { below = t.0; like = t.1 }
     where
-      beside : (rest : Option (ℤ × ℤ)) → IfSome rest (λ r. l ≤ℤ r.0 → k <ℤ r.0) → IfSome rest (λ r. (start_at r.0 old ≡ start_at r.0 old) × (l ≤ℤ r.0 → k <ℤ r.0))
+      beside : (tail : Option (ℤ × ℤ)) → IfSome tail (λ r. l ≤ℤ r.0 → k <ℤ r.0) → IfSome tail (λ r. (start_at r.0 old ≡ start_at r.0 old) × (l ≤ℤ r.0 → k <ℤ r.0))
       beside None u = tt
       beside (Some r) u = (refl, u)
 
-  pub rest_over : (f z : ℤ) → f ≤ℤ z → (old new : List (Entry V)) (rest : Option (ℤ × ℤ)) → IsRest z old rest → IfSome rest (λ r. f <ℤ r.0) → IsRestPut f z rest None old new → IsRestKept eq f z old new
+  pub rest_over : (f z : ℤ) → f ≤ℤ z → (old new : List (Entry V)) (tail : Option (ℤ × ℤ)) → IsTail z old tail → IfSome tail (λ r. f <ℤ r.0) → IsTailSplit f z tail None old new → AreOtherEntriesKept eq f z old new
   rest_over f z w old new None r u q = rest_kept f f z w old new None None r tt tt q
   rest_over f z w old new (Some e) r u q = rest_kept f f z w old new (Some e) None r (λ v. u) (λ v x p. absurd (omega (arith, ints, u, v))) q
 
-  pub none_above : {T X : Type 0} (rank : T → ℤ) (l : ℤ) (rest : Option (RangeEntry T X)) (above : Option V) → IfSome (option_map (shown_ends rank) rest) (λ r. l <ℤ r.0) → IfSome rest (λ r. rank r.start <ℤ l → IsSome above)
+  pub none_above : {T X : Type 0} (rank : T → ℤ) (l : ℤ) (tail : Option (RangeEntry T X)) (above : Option V) → IfSome (option_map (shown_ends rank) tail) (λ r. l <ℤ r.0) → IfSome tail (λ r. rank r.start <ℤ l → IsSome above)
   none_above rank l None above u = tt
   none_above rank l (Some e) above u = λ v. absurd (omega (arith, ints, u, v))
 
   -- the requirements of an edit
-  module _ {T : Type 0} (rank : T → ℤ) (l : ℤ) (es : List (Entry V)) (plan : Plan T) (above : Option V) (c : IsCanonical eq es) (p : IsPlace rank eq l es plan above) where
+  module _ {T : Type 0} (rank : T → ℤ) (l : ℤ) (es : List (Entry V)) (plan : Plan T) (above : Option V) (c : IsCanonical eq es) (p : IsEditPlan rank eq l es plan above) where
     abbrev z : ℤ
     z = rank plan.end
 
-    abbrev rest : Option (ℤ × ℤ)
-    rest = option_map (shown_ends rank) plan.rest
+    abbrev tail : Option (ℤ × ℤ)
+    tail = option_map (shown_ends rank) plan.tail
 
     -- the entry that keeps its keys above the range is the last below l, if it starts below l
-    pub like_rest : IsLikeRest eq l es rest above
-    like_rest = by_rest rest p.rest
+    pub like_rest : IsLikeTail eq l es tail above
+    like_rest = by_rest tail p.tail
       where
-        by_rest : (rest : Option (ℤ × ℤ)) → IsRest z es rest → IsLikeRest eq l es rest above
+        by_rest : (tail : Option (ℤ × ℤ)) → IsTail z es tail → IsLikeTail eq l es tail above
         by_rest None r = tt
         by_rest (Some t) r = λ u e q.
             let same : r.of ≡ e = one_value (start_at t.0 es) r.found q in
@@ -194,60 +194,60 @@ module _ {V : Type 0} (eq : V → V → Bool) (laws : IsEquivalence eq) where
             subst (λ o. IfSome o (λ x. z <ℤ x.hi → IsSomeAnd above (λ v. eq x.value v ≡ true))) (around_last eq t.0 l e es c q u (omega (arith, ints))) p.above reach
 
     -- so `above` is `Some`
-    pub above_there : IfSome plan.rest (λ r. rank r.start <ℤ l → IsSome above)
-    above_there = by_rest plan.rest p.rest like_rest
+    pub above_there : IfSome plan.tail (λ r. rank r.start <ℤ l → IsSome above)
+    above_there = by_rest plan.tail p.tail like_rest
       where
         some_and : (P : V → Type 0) (o : Option V) → IsSomeAnd o P → IsSome o
         some_and P None i = absurd i
         some_and P (Some v) i = refl
 
-        by_rest : {X : Type 0} (o : Option (RangeEntry T X)) → IsRest z es (option_map (shown_ends rank) o) → IsLikeRest eq l es (option_map (shown_ends rank) o) above → IfSome o (λ r. rank r.start <ℤ l → IsSome above)
+        by_rest : {X : Type 0} (o : Option (RangeEntry T X)) → IsTail z es (option_map (shown_ends rank) o) → IsLikeTail eq l es (option_map (shown_ends rank) o) above → IfSome o (λ r. rank r.start <ℤ l → IsSome above)
         by_rest None r i = tt
         by_rest (Some t) r i = λ u. some_and _ above (i u r.of r.found)
 
     -- the entries that start below l remain in any case
-    pub rest_started : (new : List (Entry V)) → IsRestPut l z rest above es new → IsRestKept eq (l -ℤ pos 1) z es new
-    rest_started new q = let order = p.order in rest_kept l (l -ℤ pos 1) z (omega (arith, ints)) es new rest above p.rest (under rest) like_rest q
+    pub rest_started : (new : List (Entry V)) → IsTailSplit l z tail above es new → AreOtherEntriesKept eq (l -ℤ pos 1) z es new
+    rest_started new q = let order = p.order in rest_kept l (l -ℤ pos 1) z (omega (arith, ints)) es new tail above p.tail (under tail) like_rest q
       where
-        under : (rest : Option (ℤ × ℤ)) → IfSome rest (λ r. l ≤ℤ r.0 → (l -ℤ pos 1) <ℤ r.0)
+        under : (tail : Option (ℤ × ℤ)) → IfSome tail (λ r. l ≤ℤ r.0 → (l -ℤ pos 1) <ℤ r.0)
         under None = tt
         under (Some r) = λ u. omega (arith, ints, u)
 
   -- an entry is inserted where none starts
   module _ (p : Entry V) (order : p.lo ≤ℤ p.hi) (old c : List (Entry V)) (none : start_at p.lo old ≡ None) (put : c ≡ with_entry p old) where
-    other : (rest : ℤ × ℤ) → IsRestOf p.hi old rest.0 rest.1 → rest.0 ≡ p.lo → ⊥
-    other rest r = starts_differ p.lo rest.0 r.of old r.found none
+    other : (tail : ℤ × ℤ) → IsEntryAcross p.hi old tail.0 tail.1 → tail.0 ≡ p.lo → ⊥
+    other tail r = starts_differ p.lo tail.0 r.of old r.found none
 
-    same_put : (rest : ℤ × ℤ) → IsRestOf p.hi old rest.0 rest.1 → start_at rest.0 c ≡ start_at rest.0 old
-    same_put rest r = ap (start_at rest.0) put ∙ start_beside rest.0 p old (other rest r)
+    same_put : (tail : ℤ × ℤ) → IsEntryAcross p.hi old tail.0 tail.1 → start_at tail.0 c ≡ start_at tail.0 old
+    same_put tail r = ap (start_at tail.0) put ∙ start_beside tail.0 p old (other tail r)
 
-    pub new_room : (rest : Option (ℤ × ℤ)) → IsRest p.hi old rest → HasRoom p.hi c rest
+    pub new_room : (tail : Option (ℤ × ℤ)) → IsTail p.hi old tail → HasRoom p.hi c tail
     new_room None r = tt
     new_room (Some e) r = (r.over, is_there (start_at e.0 c) (same_put e r ∙ r.found), ap (start_at (p.hi +ℤ pos 1)) put ∙ start_beside (p.hi +ℤ pos 1) p old (λ t. omega (arith, ints)) ∙ r.none)
 
-    pub new_started : (rest : Option (ℤ × ℤ)) (above : Option V) (new : List (Entry V)) → IsRest p.hi old rest → IsLikeRest eq p.lo old rest above → IsRestPut p.lo p.hi rest above c new → IsStartPut eq p old new
-    new_started rest above new r like q =
-        let t = rest_put p.lo p.lo p.hi order old c (ap (from (p.hi +ℤ pos 1)) put ∙ from_with_under (p.hi +ℤ pos 1) p old (omega (arith, ints))) rest above new r (new_room rest r) (beside rest r) like q in
+    pub new_started : (tail : Option (ℤ × ℤ)) (above : Option V) (new : List (Entry V)) → IsTail p.hi old tail → IsLikeTail eq p.lo old tail above → IsTailSplit p.lo p.hi tail above c new → IsEntrySet eq p old new
+    new_started tail above new r like q =
+        let t = rest_put p.lo p.lo p.hi order old c (ap (from (p.hi +ℤ pos 1)) put ∙ from_with_under (p.hi +ℤ pos 1) p old (omega (arith, ints))) tail above new r (new_room tail r) (beside tail r) like q in
         record {
           below = same_below p.lo c new t.0 ∙ ap (below p.lo) put ∙ below_with p.lo p old (omega (arith, ints));
           here = same_start p.lo c new t.0 ∙ ap (start_at p.lo) put ∙ start_with p old;
           like = t.1;
         }
       where
-        beside : (rest : Option (ℤ × ℤ)) → IsRest p.hi old rest → IfSome rest (λ r. (start_at r.0 c ≡ start_at r.0 old) × (p.lo ≤ℤ r.0 → p.lo <ℤ r.0))
+        beside : (tail : Option (ℤ × ℤ)) → IsTail p.hi old tail → IfSome tail (λ r. (start_at r.0 c ≡ start_at r.0 old) × (p.lo ≤ℤ r.0 → p.lo <ℤ r.0))
         beside None r = tt
         beside (Some e) r = (same_put e r, λ u. by_lt_z p.lo e.0 (λ h. h) (λ h. absurd (other e r (omega (arith, ints)))))
 
   -- an entry replaces the one that starts at l
   module _ (l z : ℤ) (v : V) (order : l ≤ℤ z) (old : List (Entry V)) (present : IsSome (start_at l old)) where
-    pub over_kept : (c new : List (Entry V)) → IsRestKept eq l z old c → new ≡ with_end_value l z v c → IsStartPut eq (entry l z v) old new
+    pub over_kept : (c new : List (Entry V)) → AreOtherEntriesKept eq l z old c → new ≡ with_end_value l z v c → IsEntrySet eq (entry l z v) old new
     over_kept c new w q = record {
       below = ap (below l) q ∙ below_replaced l l z v c (omega (arith, ints)) ∙ same_below l old c w.below;
       here = ap (start_at l) q ∙ start_replaced l z v c (subst (λ x. IsSome x) (sym (same_start l old c w.below)) present);
       like = subst (λ (x : List (Entry V)). IsSameAbove eq z old x) (sym (ap (from (z +ℤ pos 1)) q ∙ from_replaced (z +ℤ pos 1) l z v c (omega (arith, ints)))) w.like;
     }
 
-    pub over_front : (s t : ℤ) (new : List (Entry V)) → IsCanonical eq old → s ≤ℤ l → IsRestOf z old s t → IsFrontReplaced l z v (z +ℤ pos 1) old new → IsStartPut eq (entry l z v) old new
+    pub over_front : (s t : ℤ) (new : List (Entry V)) → IsCanonical eq old → s ≤ℤ l → IsEntryAcross z old s t → IsFrontReplaced l z v (z +ℤ pos 1) old new → IsEntrySet eq (entry l z v) old new
     over_front s t new c under r w =
         let n = z +ℤ pos 1 in
         let c1 = with_end_value l z v old in

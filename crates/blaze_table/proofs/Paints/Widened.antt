@@ -1,5 +1,5 @@
 -- A painted range, joined with its neighbours, is the result of the paint.
-use Rattle.blaze_table.proofs.Words.{◌≡◌, ℤ, pos, ◌+ℤ◌, ◌-ℤ◌, ◌≤ℤ◌, ◌<ℤ◌, Bool, true, false, cond, ◌&&◌, ◌||◌, List, [], ◌∷◌, ◌++◌, Option, Some, None, refl, ◌∙◌, sym, subst, ap, arith, inl, inr, IsSome, int_le, ◌⊎◌, Contains, int_eq, option_map, IsEquivalence, ints, by_lt_z, and_parts, append_assoc, le_holds, eq_holds, le_true, eq_true, one_value, Entry, entry, SameEntries, IsApart, IsCanonical, before, after, glue, IsPaintOf, IsSameAbove, found_in, StartsAscend, below, last_below, start_at, IsEnd, IsUnjoined, joined_start}
+use Rattle.blaze_table.proofs.Words.{◌≡◌, ℤ, pos, ◌+ℤ◌, ◌-ℤ◌, ◌≤ℤ◌, ◌<ℤ◌, Bool, true, false, cond, ◌&&◌, ◌||◌, List, [], ◌∷◌, ◌++◌, Option, Some, None, refl, ◌∙◌, sym, subst, ap, arith, inl, inr, IsSome, int_le, ◌⊎◌, Contains, int_eq, option_map, IsEquivalence, ints, by_lt_z, and_parts, append_assoc, le_holds, eq_holds, le_true, eq_true, one_value, Entry, entry, SameEntries, IsApart, IsCanonical, before, after, glue, IsPaintOf, IsSameAbove, found_in, StartsAscend, below, last_below, start_at, IsJoinedEnd, IsUnjoined, joined_start}
 use Rattle.blaze_table.proofs.Paints.Splices.{by_after, by_join, before_keeps, before_cuts, before_ends, below_more, after_skips, after_keeps, canonical_after}
 use Rattle.blaze_table.proofs.Canonical.Lookup.{IsAbove}
 use Rattle.blaze_table.proofs.Paints.Kept.{first_in, later_in, by_first, over_in, in_after}
@@ -73,7 +73,7 @@ module _ {V : Type 0} (test : V → Bool) (l low high : ℤ) (es : List (Entry V
           }
 
 -- the joined range ends at the range's end or above it
-pub end_up : {V : Type 0} (eq : V → V → Bool) (test : V → Bool) (h : ℤ) (es : List (Entry V)) → IsCanonical eq es → (z : ℤ) → IsEnd test h es z → h ≤ℤ z
+pub end_up : {V : Type 0} (eq : V → V → Bool) (test : V → Bool) (h : ℤ) (es : List (Entry V)) → IsCanonical eq es → (z : ℤ) → IsJoinedEnd test h es z → h ≤ℤ z
 end_up eq test h es c z (inl e) = let q = e.0 in omega (arith, ints)
 end_up eq test h es c z (inr e) =
     let whole : IsCanonical eq (e.next ∷ e.others) = subst (IsCanonical eq) e.first (canonical_after eq h es c) in
@@ -146,12 +146,12 @@ module _ {V : Type 0} (eq : V → V → Bool) (laws : IsEquivalence eq) (l h : �
           left_alone e (last_at l low high e es s i) (λ k u. against (eq e.value v) (int_le l e.hi) (int_eq l (e.hi +ℤ pos 1)) (failed (eq e.value v && (int_le l e.hi || int_eq l (e.hi +ℤ pos 1))) e.lo q) k (near e u))
 
   -- the part after the painted range, by where the joined range ends
-  module _ (z : ℤ) (end : IsEnd test h es z) (above : List (Entry V)) (like : IsSameAbove eq z es above) where
+  module _ (z : ℤ) (end : IsJoinedEnd test h es z) (above : List (Entry V)) (like : IsSameAbove eq z es above) where
     -- the join with the entry above: it follows an entry m that ends at h with a value equal to v
     pub record Right (xs : List (Entry V)) (f : ℤ) (u : V) : Type 0 where
-      pub rest : List (Entry V)
-      pub same : IsSameAbove eq h es rest
-      pub glued : glue eq (xs ++ entry f h u ∷ []) rest ≡ xs ++ entry f z u ∷ above
+      pub tail : List (Entry V)
+      pub same : IsSameAbove eq h es tail
+      pub glued : glue eq (xs ++ entry f h u ∷ []) tail ≡ xs ++ entry f z u ∷ above
 
     not_alike : (a b u : V) → eq a b ≡ true → eq u v ≡ true → eq a v ≡ false → eq u b ≡ true → ⊥
     not_alike a b u ab uv n ub =
@@ -174,7 +174,7 @@ module _ {V : Type 0} (eq : V → V → Bool) (laws : IsEquivalence eq) (l h : �
     right xs f u q = elim end [
       | inl e ↦
           let same = subst (λ (x : ℤ). IsSameAbove eq x es above) e.0 like in
-          record { rest = above; same = same; glued = unjoined xs f u (after h es) above q same.alike e.1 ∙ ap (λ x. xs ++ entry f x u ∷ above) (sym e.0) }
+          record { tail = above; same = same; glued = unjoined xs f u (after h es) above q same.alike e.1 ∙ ap (λ x. xs ++ entry f x u ∷ above) (sym e.0) }
       | inr e ↦
           let whole : IsCanonical eq (e.next ∷ e.others) = subst (IsCanonical eq) e.first (canonical_after eq h es c) in
           let start = e.touches in
@@ -183,7 +183,7 @@ module _ {V : Type 0} (eq : V → V → Bool) (laws : IsEquivalence eq) (l h : �
           let over = behind e.next e.others finish whole.1 in
           let others : after z es ≡ e.others = sym (after_after eq h z es le) ∙ ap (after z) e.first ∙ after_skips z e.next e.others (omega (arith, ints)) ∙ after_over eq z e.others over whole.2 in
           record {
-            rest = e.next ∷ above;
+            tail = e.next ∷ above;
             same = record {
               alike = subst (λ (t : List (Entry V)). SameEntries eq t (e.next ∷ above)) (sym e.first) (refl, refl, laws.refl e.next.value, subst (λ (t : List (Entry V)). SameEntries eq t above) others like.alike);
               kept = λ d i m. by_first e.next e.others d (subst (λ t. Contains t d) e.first (in_after eq h es d c i m))
@@ -215,15 +215,15 @@ module _ {V : Type 0} (eq : V → V → Bool) (laws : IsEquivalence eq) (l h : �
         let near = t.near in
         let g = right i.front e.lo e.value t.like in
         record {
-          above = g.rest;
+          above = g.tail;
           like = g.same;
           glued = put ∙ ap (λ x. x ++ entry l1 z of.value ∷ above) (ap (λ x. below x es) (sym t.lo) ∙ front_last l high e es i) ∙ ap (λ x. i.front ++ entry x z of.value ∷ above) (sym t.lo)
               ∙ ap (λ (x : Entry V). i.front ++ entry e.lo z x.value ∷ above) (sym same)
-              ∙ sym g.glued ∙ sym (ap (λ x. glue eq x g.rest) (left_joined e i t.near t.like));
+              ∙ sym g.glued ∙ sym (ap (λ x. glue eq x g.tail) (left_joined e i t.near t.like));
         }
 
     -- the range is not joined with an entry below it
     pub paint_puts : (new : List (Entry V)) → None ≡ joined_start l (option_map (found_in test) (last_below l es)) → new ≡ before l es ++ entry l z v ∷ above → IsPaintOf eq p es new
     paint_puts new q put =
         let g = right (before l es) l v (laws.refl v) in
-        record { above = g.rest; like = g.same; glued = put ∙ sym g.glued ∙ sym (ap (λ x. glue eq x g.rest) (left_apart q)) }
+        record { above = g.tail; like = g.same; glued = put ∙ sym g.glued ∙ sym (ap (λ x. glue eq x g.tail) (left_apart q)) }

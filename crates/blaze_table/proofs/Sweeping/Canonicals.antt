@@ -1,5 +1,5 @@
 -- A list with everything that pairs paint is their canonical list, and its length.
-use Rattle.blaze_table.proofs.Words.{option_or, ◌≡◌, ℕ, ◌+◌, ◌-◌, ◌*◌, ◌≤◌, ℤ, ◌≤ℤ◌, Bool, cond, List, [], ◌∷◌, length, Some, None, refl, ◌∙◌, sym, ap, subst, arith, inl, inr, ⊎_elim, int_le, ◌⊎◌, IsEquivalence, by_lt_z, le_true, le_false, same_along, same_itself, same_trans, same_or_right, same_back, or_none, or_assoc, Entry, at, holds, SameOption, IsCanonical, last_at, painted_in_order, IsListPainted, paint, keyed, IsCanonicalOf, IsSwept}
+use Rattle.blaze_table.proofs.Words.{option_or, ◌≡◌, ℕ, ◌+◌, ◌-◌, ◌*◌, ◌≤◌, ℤ, ◌≤ℤ◌, Bool, cond, List, [], ◌∷◌, length, Some, None, refl, ◌∙◌, sym, ap, subst, arith, inl, inr, ⊎_elim, int_le, ◌⊎◌, IsEquivalence, by_lt_z, le_true, le_false, same_along, same_itself, same_trans, same_or_right, same_back, or_none, or_assoc, Entry, at, holds, SameOption, IsCanonical, last_at, painted_in_order, IsListPainted, paint, keyed_count, IsCanonicalOf, IsSwept}
 use Rattle.blaze_table.proofs.Paints.Painted.{is_painted, paint_itself, painted_nowhere, length_as}
 use Rattle.blaze_table.proofs.Canonical.Runs.{one_per_run}
 use Rattle.blaze_table.proofs.Canonical.Unique.{unique}
@@ -19,8 +19,8 @@ record IsPaintedOne {V : Type 0} (eq : V → V → Bool) (p : Entry V) (old new 
 record IsPaintedEach {V : Type 0} (eq : V → V → Bool) (ps old new : List (Entry V)) : Type 0 where
   canonical : IsCanonical eq new
   content : (k : ℤ) → SameOption eq (at new k) (painted_in_order ps (at old) k)
-  few : length new ≤ length old + 2 * keyed ps
-  alone : old ≡ [] → length new ≤ 2 * keyed ps - 1
+  few : length new ≤ length old + 2 * keyed_count ps
+  alone : old ≡ [] → length new ≤ 2 * keyed_count ps - 1
 
 module _ {V : Type 0} (eq : V → V → Bool) (laws : IsEquivalence eq) where
   -- one pair is painted
@@ -53,7 +53,7 @@ module _ {V : Type 0} (eq : V → V → Bool) (laws : IsEquivalence eq) where
       )
 
   -- If n pairs have a key, their paints on an empty map give a canonical list with at most 2n - 1 entries.
-  pub few_painted : (ps out : List (Entry V)) → IsCanonical eq out → ((k : ℤ) → SameOption eq (at out k) (painted_in_order ps (at []) k)) → length out ≤ 2 * keyed ps - 1
+  pub few_painted : (ps out : List (Entry V)) → IsCanonical eq out → ((k : ℤ) → SameOption eq (at out k) (painted_in_order ps (at []) k)) → length out ≤ 2 * keyed_count ps - 1
   few_painted ps out c content =
       let each = each_painted ps [] tt in
       let same = unique eq laws each.0 out each.1.canonical c

@@ -9,10 +9,10 @@ use Rattle.blaze_table.specs.Entries.{Entry, entry, SameOption}
 use Rattle.blaze_table.specs.Painted.{last_at}
 use Rattle.blaze_table.specs.Splice.{glue}
 use Rattle.blaze_table.specs.declared.sweep.held.Held.{Held}
-use Rattle.blaze_table.specs.declared.sweep.held.Held.TheVariants.{Kept, Moved}
+use Rattle.blaze_table.specs.declared.sweep.held.Held.TheVariants.{Present, Moved}
 use Rattle.blaze_table.specs.declared.sweep.placed.Placed.{Placed}
 use Rattle.blaze_table.specs.Held.{kept_value, held_value, value_in, PutsPiece}
-use Rattle.blaze_table.specs.Pieces.{ArePlaced, EndsAreKeys, ArePieces, IsCanonicalOfPlaced}
+use Rattle.blaze_table.specs.Pieces.{AreAllPairsPlaced, EndsAreKeys, ArePieces, IsCanonicalOfPlaced}
 use Rattle.blaze_table.specs.Swept.{IsSwept}
 use Rattle.blaze_table.proofs.Sweeping.Canonicals.{canonical_of_swept}
 use Rattle.blaze_table.proofs.Sweeping.Held.{get_set_same, get_set_other, glue_keeps, glue_last, within_held}
@@ -24,7 +24,7 @@ use Rattle.blaze_table.proofs.Sweeping.Sweeps.{swept_none, swept_more}
 -- available.
 pub record IsFilledSoFar {T V : Type 0} (eq : V → V → Bool) (rank : T → ℤ) (low high : ℤ) (placed : List (Placed T V)) (b : ℤ) (rest : List (Entry ℕ)) (out : List (Entry V)) (held : List (Held V)) : Type 0 where
   pub from : ℤ
-  pub swept : (ps : List (Entry V)) → ArePlaced rank ps placed → IsSwept eq low high (last_at ps) from out
+  pub swept : (ps : List (Entry V)) → AreAllPairsPlaced rank ps placed → IsSwept eq low high (last_at ps) from out
   pub left : ArePieces rank placed from b rest
   pub at_hand : (j : ℕ) (p : Placed T V) → slice_get placed j ≡ Some p → SameOption eq (value_in out held j) (Some p.value)
 
@@ -35,7 +35,7 @@ module _ {V : Type 0} (eq : V → V → Bool) (laws : IsEquivalence eq) where
   -- an entry keeps its value when one more is appended
   held_keeps : (out : List (Entry V)) (p : Entry V) (o : Option (Held V)) (w : V) → SameOption eq (held_value out o) (Some w) → SameOption eq (held_value (glue eq out (p ∷ [])) o) (Some w)
   held_keeps out p None w s = s
-  held_keeps out p (Some (Kept v)) w s = s
+  held_keeps out p (Some (Present v)) w s = s
   held_keeps out p (Some (Moved i)) w s = of (option_map (λ (e : Entry V). e.value) (slice_get out i)) refl s
     where
       of : (o : Option V) → option_map (λ (e : Entry V). e.value) (slice_get out i) ≡ o → SameOption eq o (Some w) → SameOption eq (option_map (λ (e : Entry V). e.value) (slice_get (glue eq out (p ∷ [])) i)) (Some w)

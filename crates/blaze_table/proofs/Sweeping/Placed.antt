@@ -14,7 +14,7 @@ use Rattle.blaze_int.proofs.Comparisons.{by_bool}
 use Rattle.blaze_table.specs.Canonical.{AreKeys}
 use Rattle.blaze_table.specs.Entries.{Entry, entry, holds}
 use Rattle.blaze_table.specs.Painted.{last_at}
-use Rattle.blaze_table.specs.Pieces.{IsPlaced, places_of, ArePlacedBelow, ArePlaced, HasKey, EndsAreKeys, AreAscending, IsPiece}
+use Rattle.blaze_table.specs.Pieces.{IsPlacedPair, places_of, ArePairsPlacedBelow, AreAllPairsPlaced, HasKey, EndsAreKeys, AreAscending, IsPiece}
 use Rattle.blaze_table.proofs.Pairs.Lasts.{last_none, last_is}
 use Rattle.blaze_table.proofs.Canonical.Lookup.{holds_in, holds_ends}
 use Rattle.blaze_table.proofs.Sweeping.Orders.{tail_sorted, not_less}
@@ -62,15 +62,15 @@ one_more P n below here j l = by_case (nat_case j n l)
 -- ---- pairs appended one by one
 
 module _ {T V : Type 0} (rank : T → ℤ) (ps : List (Entry V)) where
-  pub placed_none : ArePlacedBelow rank ps 0 []
+  pub placed_none : ArePairsPlacedBelow rank ps 0 []
   placed_none = record {
-    known = All-nil (IsPlaced rank ps);
+    known = All-nil (IsPlacedPair rank ps);
     complete = λ j l e q w. absurd (omega arith);
   }
 
-  module _ (n : ℕ) (placed : List (Placed T V)) (c : ArePlacedBelow rank ps n placed) (e : Entry V) (is : slice_get ps n ≡ Some e) where
+  module _ (n : ℕ) (placed : List (Placed T V)) (c : ArePairsPlacedBelow rank ps n placed) (e : Entry V) (is : slice_get ps n ≡ Some e) where
     -- a pair without a key
-    pub placed_skip : e.hi <ℤ e.lo → ArePlacedBelow rank ps (n + 1) placed
+    pub placed_skip : e.hi <ℤ e.lo → ArePairsPlacedBelow rank ps (n + 1) placed
     placed_skip w = record {
       known = c.known;
       complete = one_more (λ j. (f : Entry V) → slice_get ps j ≡ Some f → f.lo ≤ℤ f.hi → Contains (places_of placed) j) n c.complete
@@ -78,25 +78,25 @@ module _ {T V : Type 0} (rank : T → ℤ) (ps : List (Entry V)) where
     }
 
     -- a pair with a key
-    pub placed_more : (s t : T) (v : V) (new : List (Placed T V)) → new ≡ placed ++ (record { start = s; end = t; place = n; value = v }) ∷ [] → e ≡ entry (rank s) (rank t) v → rank s ≤ℤ rank t → ArePlacedBelow rank ps (n + 1) new
+    pub placed_more : (s t : T) (v : V) (new : List (Placed T V)) → new ≡ placed ++ (record { start = s; end = t; place = n; value = v }) ∷ [] → e ≡ entry (rank s) (rank t) v → rank s ≤ℤ rank t → ArePairsPlacedBelow rank ps (n + 1) new
     placed_more s t v new is_new r o =
         let places : places_of new ≡ places_of placed ++ n ∷ [] = ap places_of is_new ∙ map-append (λ (p : Placed T V). p.place) placed ((record { start = s; end = t; place = n; value = v }) ∷ []) in
         record {
-          known = subst (All (IsPlaced rank ps)) (sym is_new) (All-push (IsPlaced rank ps) placed (record { start = s; end = t; place = n; value = v }) c.known (record { is = is ∙ ap Some r; order = o }));
+          known = subst (All (IsPlacedPair rank ps)) (sym is_new) (All-push (IsPlacedPair rank ps) placed (record { start = s; end = t; place = n; value = v }) c.known (record { is = is ∙ ap Some r; order = o }));
           complete = one_more (λ j. (f : Entry V) → slice_get ps j ≡ Some f → f.lo ≤ℤ f.hi → Contains (places_of new) j) n
               (λ j l f q h. subst (λ m. Contains m j) (sym places) (Contains-append_left (places_of placed) (n ∷ []) j (c.complete j l f q h)))
               (λ f q h. subst (λ m. Contains m n) (sym places) (Contains-push (places_of placed) n));
         }
 
   -- the same pairs in another order
-  pub placed_sorted : (n : ℕ) (placed new : List (Placed T V)) → ArePlacedBelow rank ps n placed → n ≡ length ps → IsPermutation placed new → ArePlaced rank ps new
+  pub placed_sorted : (n : ℕ) (placed new : List (Placed T V)) → ArePairsPlacedBelow rank ps n placed → n ≡ length ps → IsPermutation placed new → AreAllPairsPlaced rank ps new
   placed_sorted n placed new c l p = record {
-    known = All-permutation (IsPlaced rank ps) placed new p c.known;
+    known = All-permutation (IsPlacedPair rank ps) placed new p c.known;
     complete = λ j w e q h. Contains-permutation (places_of placed) (places_of new) j (IsPermutation-map (λ (p : Placed T V). p.place) placed new p) (c.complete j (omega (arith, w, l)) e q h);
   }
 
-  pub ends_are_keys : (low high : ℤ) (placed : List (Placed T V)) → AreKeys low high ps → All (IsPlaced rank ps) placed → All (EndsAreKeys rank low high) placed
-  ends_are_keys low high placed are known = All-weaker (IsPlaced rank ps) (EndsAreKeys rank low high) (λ p h. keys_at low high ps p.place (entry (rank p.start) (rank p.end) p.value) are h.is) placed known
+  pub ends_are_keys : (low high : ℤ) (placed : List (Placed T V)) → AreKeys low high ps → All (IsPlacedPair rank ps) placed → All (EndsAreKeys rank low high) placed
+  ends_are_keys low high placed are known = All-weaker (IsPlacedPair rank ps) (EndsAreKeys rank low high) (λ p h. keys_at low high ps p.place (entry (rank p.start) (rank p.end) p.value) are h.is) placed known
 
 -- ---- the list after a sort by the first keys
 
@@ -145,13 +145,13 @@ found {T = T} {V = V} placed place c = at_index placed c.0 c.1 c.2
     at_index (x ∷ xs) zero l q = record { index = 0; pair = x; is = refl; place_is = q }
     at_index (x ∷ xs) (suc k) l q = let f = at_index xs k (omega arith) q in record { index = suc f.index; pair = f.pair; is = f.is; place_is = f.place_is }
 
-module _ {T V : Type 0} (rank : T → ℤ) (ps : List (Entry V)) (placed : List (Placed T V)) (c : ArePlaced rank ps placed) where
+module _ {T V : Type 0} (rank : T → ℤ) (ps : List (Entry V)) (placed : List (Placed T V)) (c : AreAllPairsPlaced rank ps placed) where
   -- a pair with a key is in the placed list
   by_place : {P : Type 0} (j : ℕ) (e : Entry V) (k : ℤ) → slice_get ps j ≡ Some e → holds e k ≡ true → ((i : ℕ) (p : Placed T V) → slice_get placed i ≡ Some p → p.place ≡ j → HasKey rank p k → P) → P
   by_place j e k q h f =
       let ends = holds_ends e k h in
       let it = found placed j (c.complete j (slice_get_within ps j e q) e q (omega (arith, ints, ends.0, ends.1))) in
-      let known = item_of (IsPlaced rank ps) placed it.index it.pair c.known it.is in
+      let known = item_of (IsPlacedPair rank ps) placed it.index it.pair c.known it.is in
       let same : entry (rank it.pair.start) (rank it.pair.end) it.pair.value ≡ e = one_item ps j (entry (rank it.pair.start) (rank it.pair.end) it.pair.value) e (subst (λ m. slice_get ps m ≡ Some (entry (rank it.pair.start) (rank it.pair.end) it.pair.value)) it.place_is known.is) q in
       f it.index it.pair it.is it.place_is (omega (arith, ints, ends.0, ap (λ (x : Entry V). x.lo) same), omega (arith, ints, ends.1, ap (λ (x : Entry V). x.hi) same))
 
@@ -164,5 +164,5 @@ module _ {T V : Type 0} (rank : T → ℤ) (ps : List (Entry V)) (placed : List 
   value_of x piece k l u =
       let pair = piece.pair in
       let e = entry (rank pair.start) (rank pair.end) pair.value in
-      last_is ps pair.place e k (item_of (IsPlaced rank ps) placed x.value pair c.known piece.is).is (holds_in e k (omega (arith, ints, piece.start)) (omega (arith, ints, piece.end)))
+      last_is ps pair.place e k (item_of (IsPlacedPair rank ps) placed x.value pair c.known piece.is).is (holds_in e k (omega (arith, ints, piece.start)) (omega (arith, ints, piece.end)))
       (λ i f g r. by_bool (holds f k) (λ h. by_place i f k r h (λ m p s t w. let n = piece.last m p s k l u w in absurd (omega (arith, g, n, t)))) (λ b. b))

@@ -1,5 +1,5 @@
 -- A walk down to a range makes at most a few more lookups than a paint of the range removes entries.
-use Rattle.blaze_table.proofs.Words.{◌≡◌, ℕ, ◌+◌, ◌≤◌, ℤ, pos, ◌+ℤ◌, ◌≤ℤ◌, Bool, List, [], ◌∷◌, length, ◌∙◌, ap, arith, Result, Ok, Err, OnOk, IfOk, ints, by_lt_z, CountedEntries, StartsAscend, below, from, IsLookedAt, below_takes, below_skips, below_none, from_takes, from_skips, from_all, Entry, entry, IsCanonical, IsCountedPaint, PutsAtMost, IsLooked, IsWorked, before, after, IsTablePainted}
+use Rattle.blaze_table.proofs.Words.{◌≡◌, ℕ, ◌+◌, ◌≤◌, ℤ, pos, ◌+ℤ◌, ◌≤ℤ◌, Bool, List, [], ◌∷◌, length, ◌∙◌, ap, arith, Result, Ok, Err, OnOk, IfOk, ints, by_lt_z, CountedEntries, StartsAscend, below, from, HasWalkLookups, below_takes, below_skips, below_none, from_takes, from_skips, from_all, Entry, entry, IsCanonical, IsCountedPaint, PutsAtMost, HasEditLookups, IsWorked, before, after, IsTablePainted}
 use Rattle.blaze_table.proofs.Canonical.Lookup.{IsAbove-from_apart, above_by}
 use Rattle.blaze_table.proofs.Walks.Plans.{from_above}
 use Rattle.blaze_table.proofs.Walks.Worked.{counted_then, counted_looked}
@@ -37,23 +37,23 @@ module _ {V : Type 0} (eq : V → V → Bool) where
 
   -- the lookups of a walk, and at most one more
   looked : (l h low high : ℤ) (old new : CountedEntries V) → l ≤ℤ h → StartsAscend low high old.entries → IsCanonical eq old.entries → new ≡ record old { looks = new.looks } → old.looks ≤ new.looks
-      → new.looks ≤ old.looks + length (from l (below (h +ℤ pos 2) old.entries)) + 2 → IsLooked l h old new
+      → new.looks ≤ old.looks + length (from l (below (h +ℤ pos 2) old.entries)) + 2 → HasEditLookups l h old new
   looked l h low high old new w s c alone risen few = record {
     alone = alone;
     risen = risen;
     few = omega (arith, few, few_starts l h low high old.entries w s, before_starts l old.entries c, after_starts h old.entries c);
   }
 
-  pub looked_by_walk : (l h low high : ℤ) {old new : CountedEntries V} → l ≤ℤ h → StartsAscend low high old.entries → IsCanonical eq old.entries → IsLookedAt 0 l h old new → IsLooked l h old new
+  pub looked_by_walk : (l h low high : ℤ) {old new : CountedEntries V} → l ≤ℤ h → StartsAscend low high old.entries → IsCanonical eq old.entries → HasWalkLookups 0 l h old new → HasEditLookups l h old new
   looked_by_walk l h low high {old} {new} w s c k = looked l h low high old new w s c k.alone k.risen (omega (arith, k.few))
 
   pub looked_again : (l h low high : ℤ) (old mid new : CountedEntries V) → l ≤ℤ h → StartsAscend low high old.entries → IsCanonical eq old.entries → mid ≡ record old { looks = mid.looks } → old.looks ≤ mid.looks
-      → mid.looks ≤ old.looks + length (from l (below (h +ℤ pos 2) old.entries)) + 1 → new ≡ record mid { looks = new.looks } → mid.looks ≤ new.looks → new.looks ≤ mid.looks + 1 → IsLooked l h old new
+      → mid.looks ≤ old.looks + length (from l (below (h +ℤ pos 2) old.entries)) + 1 → new ≡ record mid { looks = new.looks } → mid.looks ≤ new.looks → new.looks ≤ mid.looks + 1 → HasEditLookups l h old new
   looked_again l h low high old mid new w s c walked up few again risen once =
       looked l h low high old new w s c (again ∙ ap (λ (x : CountedEntries V). record x { looks = new.looks }) walked) (omega (arith, up, risen)) (omega (arith, few, once))
 
 -- few lookups, and then the edit; the list has at most one entry more than the parts below and above the range
-module _ {V : Type 0} (l h : ℤ) (old mid new : CountedEntries V) (looked : IsLooked l h old mid) where
+module _ {V : Type 0} (l h : ℤ) (old mid new : CountedEntries V) (looked : HasEditLookups l h old mid) where
   pub counted : (most : ℕ) → IsWorked most 0 mid new → length new.entries ≤ length (before l mid.entries) + length (after h mid.entries) + 1 → PutsAtMost most old new
   counted most work short =
       let same : mid.entries ≡ old.entries = ap (λ (x : CountedEntries V). x.entries) looked.alone in

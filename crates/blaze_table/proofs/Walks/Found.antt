@@ -1,6 +1,6 @@
 -- The results of a walk down to a range, as an edit of the range requires them.
-use Rattle.blaze_table.proofs.Words.{◌≡◌, ℤ, pos, ◌+ℤ◌, ◌-ℤ◌, ◌≤ℤ◌, ◌<ℤ◌, Bool, true, false, cond, List, [], ◌∷◌, Option, Some, None, refl, ◌∙◌, sym, subst, ap, arith, ℕ, inl, inr, last_or, option_map, int_eq, int_le, ◌&&◌, ◌||◌, IsSome, IfSome, IsSomeAnd, ints, by_lt_z, lt_true, lt_false, le_true, not_both, CountedEntries, RangeEntry, found_in, shown_found, RangesAscend, end_of, IsSeenIn, IsAboveCloned, GoesOnUnlike, IsClonedIf, IsWalk, StartsAscend, below, last_below, start_at, below_none, below_takes, IsCanonical, AreKeys, Entry, entry, at, entry_at, SameOption, ClonesAreAlike, IsInside, joined_start, IsUnjoined, IsEndAfter, IsEnd, IsLikeAbove, IsUnlikeAbove, GoesOnUnequal, IsLooked, IsWalkOf, after, IsTable}
-use Rattle.blaze_entries.specs.Overlap.{covered}
+use Rattle.blaze_table.proofs.Words.{◌≡◌, ℤ, pos, ◌+ℤ◌, ◌-ℤ◌, ◌≤ℤ◌, ◌<ℤ◌, Bool, true, false, cond, List, [], ◌∷◌, Option, Some, None, refl, ◌∙◌, sym, subst, ap, arith, ℕ, inl, inr, last_or, option_map, int_eq, int_le, ◌&&◌, ◌||◌, IsSome, IfSome, IsSomeAnd, ints, by_lt_z, lt_true, lt_false, le_true, not_both, CountedEntries, RangeEntry, found_in, shown_found, RangesAscend, end_of, IsSeenIn, IsAboveCloned, GoesOnUnlike, IsClonedIf, IsWalk, StartsAscend, below, last_below, start_at, below_none, below_takes, IsCanonical, AreKeys, Entry, entry, at, entry_at, SameOption, ClonesAreAlike, IsInside, joined_start, IsUnjoined, IsJoinedEndAfter, IsJoinedEnd, IsLikeAbove, IsUnlikeAbove, GoesOnUnequal, HasEditLookups, IsWalkOf, after, IsTable}
+use Rattle.blaze_entries.specs.Overlap.{covered_keys}
 use Rattle.blaze_table.specs.Planned.{Seen}
 use Rattle.blaze_table.proofs.Canonical.Counted.{keys_apart}
 use Rattle.blaze_table.proofs.Canonical.Lookup.{value-entry_at}
@@ -26,15 +26,15 @@ module _ {V : Type 0} (eq : V → V → Bool) where
 
   module _ (test : V → Bool) (h high : ℤ) where
     -- one more entry in front, which extends above the range and starts right above it or below
-    end_long : (e : Entry V) (es : List (Entry V)) (x : Entry V) → after h (e ∷ es) ≡ x ∷ es → x.lo ≡ h +ℤ pos 1 → x.hi ≡ e.hi → x.value ≡ e.value → (b : Bool) → test e.value ≡ b → IsEnd test h (e ∷ es) (cond b e.hi h)
+    end_long : (e : Entry V) (es : List (Entry V)) (x : Entry V) → after h (e ∷ es) ≡ x ∷ es → x.lo ≡ h +ℤ pos 1 → x.hi ≡ e.hi → x.value ≡ e.value → (b : Bool) → test e.value ≡ b → IsJoinedEnd test h (e ∷ es) (cond b e.hi h)
     end_long e es x p start finish same true t = inr (record { next = x; others = es; first = p; touches = start; ends = finish; like = ap test same ∙ t })
     end_long e es x p start finish same false t = inl (refl, subst (IsUnjoined test h) (sym p) (λ _. ap test same ∙ t))
 
     -- the end of the joined range, by the last entry that starts up to the key above it
-    pub end_is : (b : ℤ) (es : List (Entry V)) → StartsAscend b high es → IsCanonical eq es → IsEnd test h es (end_of h (option_map (found_in test) (last_below (h +ℤ pos 2) es)))
+    pub end_is : (b : ℤ) (es : List (Entry V)) → StartsAscend b high es → IsCanonical eq es → IsJoinedEnd test h es (end_of h (option_map (found_in test) (last_below (h +ℤ pos 2) es)))
     end_is b [] s c = inl (refl, tt)
     end_is b (e ∷ es) s c = by_after h e es
-        (λ u p. rw (below_takes (h +ℤ pos 2) e es (omega (arith, ints, c.0))) (subst (IsEndAfter test h (after h (e ∷ es))) (short u (below (h +ℤ pos 2) es)) (subst (λ x. IsEndAfter test h x (end_of h (option_map (found_in test) (last_below (h +ℤ pos 2) es)))) (sym p) (end_is (e.lo +ℤ pos 1) es s.2 c.2))))
+        (λ u p. rw (below_takes (h +ℤ pos 2) e es (omega (arith, ints, c.0))) (subst (IsJoinedEndAfter test h (after h (e ∷ es))) (short u (below (h +ℤ pos 2) es)) (subst (λ x. IsJoinedEndAfter test h x (end_of h (option_map (found_in test) (last_below (h +ℤ pos 2) es)))) (sym p) (end_is (e.lo +ℤ pos 1) es s.2 c.2))))
         (λ u v p. rw (last u (omega (arith, ints)), lt_true h e.hi u) (end_long e es (entry (h +ℤ pos 1) e.hi e.value) p refl refl refl (test e.value) refl))
         (λ u v p. by_lt_z e.lo (h +ℤ pos 2)
         (λ m. rw (last u m, lt_true h e.hi u) (end_long e es e p (omega (arith, ints)) refl refl (test e.value) refl))
@@ -67,10 +67,10 @@ module _ {V : Type 0} (eq : V → V → Bool) (l h low high : ℤ) (w : l ≤ℤ
       by_last (Some e) q = λ u. ap (option_map (λ (x : Entry V). x.value)) (start_last e q)
 
   -- that entry exists
-  pub left_there : {T : Type 0} (test : V → Bool) (rank : T → ℤ) (left : Option (RangeEntry T Bool)) → option_map (shown_found rank) left ≡ option_map (found_in test) (last_below l es) → IfSome left (λ f. IsSome (start_at (rank f.start) es))
-  left_there {T} test rank left q = by_both left (last_below l es) refl q
+  pub left_there : {T : Type 0} (test : V → Bool) (rank : T → ℤ) (predecessor : Option (RangeEntry T Bool)) → option_map (shown_found rank) predecessor ≡ option_map (found_in test) (last_below l es) → IfSome predecessor (λ f. IsSome (start_at (rank f.start) es))
+  left_there {T} test rank predecessor q = by_both predecessor (last_below l es) refl q
     where
-      by_both : (left : Option (RangeEntry T Bool)) (x : Option (Entry V)) → last_below l es ≡ x → option_map (shown_found rank) left ≡ option_map (found_in test) x → IfSome left (λ f. IsSome (start_at (rank f.start) es))
+      by_both : (predecessor : Option (RangeEntry T Bool)) (x : Option (Entry V)) → last_below l es ≡ x → option_map (shown_found rank) predecessor ≡ option_map (found_in test) x → IfSome predecessor (λ f. IsSome (start_at (rank f.start) es))
       by_both None x r q = tt
       by_both (Some f) None r q = cc
       by_both (Some f) (Some e) r q =
@@ -90,7 +90,7 @@ module _ {V : Type 0} (eq : V → V → Bool) (l h low high : ℤ) (w : l ≤ℤ
   pub has_ranges : RangesAscend low high es
   has_ranges = ranges_of eq low high es s t.canonical low t.are_keys
 
-  pub has_keys : covered l h es ≤ℤ pos len
+  pub has_keys : covered_keys l h es ≤ℤ pos len
   has_keys = omega (arith, ints, t.counted, covered_fits eq l h es t.canonical)
 
   -- the results of a walk
@@ -102,18 +102,18 @@ module _ {V : Type 0} (eq : V → V → Bool) (l h low high : ℤ) (w : l ≤ℤ
         by_last None q g = absurd g
         by_last (Some e) q g = record { over = record { entry = e; here = last_held eq l h low high w es s t.canonical l e q h (omega (arith, ints)) (omega (arith, ints, g.0)); above = g.0 }; unequal = g.1 }
 
-    pub found_by_walk : (p : Seen) → IsSeenIn test l h es p → (n : ℕ) → pos n +ℤ covered l h es ≡ pos len → (is_clone : V → V → Type 0) → ClonesAreAlike is_clone eq → (o : Option V) → IsAboveCloned is_clone test l h es o → IsWalkOf eq test l h es p n o
+    pub found_by_walk : (p : Seen) → IsSeenIn test l h es p → (n : ℕ) → pos n +ℤ covered_keys l h es ≡ pos len → (is_clone : V → V → Type 0) → ClonesAreAlike is_clone eq → (o : Option V) → IsAboveCloned is_clone test l h es o → IsWalkOf eq test l h es p n o
     found_by_walk p i n q is_clone k o a = record {
-      plan = record { end = subst (IsEnd test h es) (sym i.end) (end_is eq test h high low es s t.canonical); rest = i.rest; first = i.first; left = i.left; gone = i.gone };
-      outside = omega (arith, ints, q, t.counted, keys_apart eq l h es w t.canonical);
+      plan = record { end = subst (IsJoinedEnd test h es) (sym i.end) (end_is eq test h high low es s t.canonical); tail = i.tail; first = i.first; predecessor = i.predecessor; removed_count = i.removed_count };
+      keys_outside = omega (arith, ints, q, t.counted, keys_apart eq l h es w t.canonical);
       above = like_cloned eq is_clone k test h (last_below l es) o a;
     }
 
     pub walked : {is_clone : V → V → Type 0} {wanted : Bool} {p : Seen} {n : ℕ} {o v : Option V} → ClonesAreAlike is_clone eq → IsWalk is_clone test wanted l h len es p n o v → IsWalkOf eq test l h es p n o
-    walked {is_clone} {p = p} {n} {o} k i = found_by_walk p i.plan n i.outside is_clone k o i.above
+    walked {is_clone} {p = p} {n} {o} k i = found_by_walk p i.plan n i.keys_outside is_clone k o i.above
 
 -- the results are true after the lookups
-pub found_still : {V : Type 0} {eq : V → V → Bool} {test : V → Bool} {l h : ℤ} {old mid : CountedEntries V} {p : Seen} {n : ℕ} {o : Option V} → IsLooked l h old mid → IsWalkOf eq test l h old.entries p n o → IsWalkOf eq test l h mid.entries p n o
+pub found_still : {V : Type 0} {eq : V → V → Bool} {test : V → Bool} {l h : ℤ} {old mid : CountedEntries V} {p : Seen} {n : ℕ} {o : Option V} → HasEditLookups l h old mid → IsWalkOf eq test l h old.entries p n o → IsWalkOf eq test l h mid.entries p n o
 found_still {V} {eq} {test} {l} {h} {old} {mid} {p} {n} {o} looked found = subst (λ (es : List (Entry V)). IsWalkOf eq test l h es p n o) (sym (ap (λ (s : CountedEntries V). s.entries) looked.alone)) found
 
 -- if the entry is not joined with the range, its value is unequal

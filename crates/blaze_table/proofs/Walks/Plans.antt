@@ -1,5 +1,5 @@
 -- The facts about the list that the plan of a paint gives.
-use Rattle.blaze_table.proofs.Words.{◌≡◌, ℤ, pos, ◌+ℤ◌, ◌≤ℤ◌, ◌<ℤ◌, Bool, true, false, cond, List, [], ◌∷◌, Option, Some, None, refl, ◌∙◌, sym, subst, ap, arith, inl, inr, IfSome, IsSomeAnd, int_le, ◌&&◌, ◌||◌, option_map, ints, by_lt_z, by_bool, lt_true, lt_false, not_both, int_eq, found_in, range_in, shown_found, shown_ends, Seen, shown_plan, StartsAscend, from, last_below, start_at, RangeEntry, Plan, one_value, from_takes, from_skips, Entry, entry, IsPlace, IsCanonical, IsLikeAbove, IsUnjoined, IsJoinedTo, IsEnd, rest_of, joined_start, IsPlanOf, IsRestOf, IsRest, after}
+use Rattle.blaze_table.proofs.Words.{◌≡◌, ℤ, pos, ◌+ℤ◌, ◌≤ℤ◌, ◌<ℤ◌, Bool, true, false, cond, List, [], ◌∷◌, Option, Some, None, refl, ◌∙◌, sym, subst, ap, arith, inl, inr, IfSome, IsSomeAnd, int_le, ◌&&◌, ◌||◌, option_map, ints, by_lt_z, by_bool, lt_true, lt_false, not_both, int_eq, found_in, range_in, shown_found, shown_ends, Seen, shown_plan, StartsAscend, from, last_below, start_at, RangeEntry, Plan, one_value, from_takes, from_skips, Entry, entry, IsEditPlan, IsCanonical, IsLikeAbove, IsUnjoined, IsJoinedTo, IsJoinedEnd, tail_of, joined_start, IsPlanOf, IsEntryAcross, IsTail, after}
 use Rattle.blaze_table.proofs.Canonical.Lookup.{IsAbove, IsAbove-from_apart, above_by}
 use Rattle.blaze_table.proofs.Paints.Splices.{by_after, after_skips}
 use Rattle.blaze_table.proofs.Cuts.Splits.{LastAt, last_at, after_short, after_long, after_none, none_next}
@@ -41,7 +41,7 @@ found_ends rank test (Some f) (Some e) q = let found : shown_found rank f ≡ fo
 
 module _ {V : Type 0} (eq : V → V → Bool) (test : V → Bool) (l h : ℤ) (w : l ≤ℤ h) (low high : ℤ) (es : List (Entry V)) (s : StartsAscend low high es) (c : IsCanonical eq es) where
   -- the entry that keeps its keys above the range, by the last entry that starts up to h
-  module _ (z : ℤ) (up : h ≤ℤ z) (end : IsEnd test h es z) where
+  module _ (z : ℤ) (up : h ≤ℤ z) (end : IsJoinedEnd test h es z) where
     no_rest : after h es ≡ from (h +ℤ pos 1) es → after z es ≡ from (z +ℤ pos 1) es
     no_rest q = elim end [
       | inl e ↦ subst (λ (x : ℤ). after x es ≡ from (x +ℤ pos 1) es) (sym e.0) q
@@ -67,16 +67,16 @@ module _ {V : Type 0} (eq : V → V → Bool) (test : V → Bool) (l h : ℤ) (w
             sym j.ends ∙ ap (λ (x : Entry V). x.hi) same
       ]
 
-      unequal_rest : test e.value ≡ false → IsRestOf z es e.lo e.hi
+      unequal_rest : test e.value ≡ false → IsEntryAcross z es e.lo e.hi
       unequal_rest q = elim end [
-        | inl j ↦ subst (λ (x : ℤ). IsRestOf x es e.lo e.hi) (sym j.0) (record {
+        | inl j ↦ subst (λ (x : ℤ). IsEntryAcross x es e.lo e.hi) (sym j.0) (record {
           of = e;
           found = last_there (h +ℤ pos 1) high e es i;
           ends = refl;
           starts = omega (arith, ints, i.starts);
           over = over;
           none = none_next eq h high e es i c low s over;
-          rest = after_long eq h high e es i c over;
+          tail = after_long eq h high e es i c over;
         })
         | inr j ↦ absurd (unlike j)
       ]
@@ -87,7 +87,7 @@ module _ {V : Type 0} (eq : V → V → Bool) (test : V → Bool) (l h : ℤ) (w
               let same : j.next ≡ entry (h +ℤ pos 1) e.hi e.value = cc in
               not_both (test e.value) (subst (λ (x : Entry V). test x.value ≡ true) same j.like) q
 
-    rest_from : (o : Option (Entry V)) → last_below (h +ℤ pos 1) es ≡ o → IsRest z es (rest_of h (option_map (found_in test) o))
+    rest_from : (o : Option (Entry V)) → last_below (h +ℤ pos 1) es ≡ o → IsTail z es (tail_of h (option_map (found_in test) o))
     rest_from None q = no_rest (after_none eq h low high es s c q)
     rest_from (Some e) q = by_lt_z h e.hi
         (λ u. rw (lt_true h e.hi u) (by_bool (test e.value)
@@ -95,17 +95,17 @@ module _ {V : Type 0} (eq : V → V → Bool) (test : V → Bool) (l h : ℤ) (w
         (λ t. rw t (unequal_rest e q u t))))
         (λ u. rw (lt_false h e.hi u) (no_rest (after_short eq h high e es (last_at (h +ℤ pos 1) low high e es s q) c u)))
 
-  pub rest_is : (p : Seen) → h ≤ℤ p.end → IsPlanOf test l h es p → IsRest p.end es p.rest
-  rest_is p up r = subst (IsRest p.end es) (sym r.rest) (rest_from p.end up r.end (last_below (h +ℤ pos 1) es) refl)
+  pub rest_is : (p : Seen) → h ≤ℤ p.end → IsPlanOf test l h es p → IsTail p.end es p.tail
+  rest_is p up r = subst (IsTail p.end es) (sym r.tail) (rest_from p.end up r.end (last_below (h +ℤ pos 1) es) refl)
 
   -- the entry that the range is joined with does not extend above the joined range
-  pub joined_within : (f : ℤ) (p : Seen) → Some f ≡ joined_start l p.left → IsPlanOf test l h es p → IsLikeAbove eq l p.end es None
+  pub joined_within : (f : ℤ) (p : Seen) → Some f ≡ joined_start l p.predecessor → IsPlanOf test l h es p → IsLikeAbove eq l p.end es None
   joined_within f p q r = by_last (last_below l es) refl
     where
       by_last : (o : Option (Entry V)) → last_below l es ≡ o → IfSome o (λ e. p.end <ℤ e.hi → IsSomeAnd None (λ u. eq e.value u ≡ true))
       by_last None is = tt
       by_last (Some e) is = λ u.
-          let t = started_at test l low high es s f (q ∙ ap (joined_start l) r.left) in
+          let t = started_at test l low high es s f (q ∙ ap (joined_start l) r.predecessor) in
           let same : t.of ≡ e = one_value (last_below l es) t.is is in
           let like : test e.value ≡ true = ap (λ (x : Entry V). test x.value) (sym same) ∙ t.like in
           let here = last_at l low high e es s is in
@@ -116,20 +116,20 @@ module _ {V : Type 0} (eq : V → V → Bool) (test : V → Bool) (l h : ℤ) (w
           absurd (omega (arith, ints))
 
   -- the plan meets the requirements of an edit
-  pub place_is : {T : Type 0} (rank : T → ℤ) (plan : Plan T) (o : Option V) → IsPlanOf test l h es (shown_plan rank plan) → IsLikeAbove eq l (rank plan.end) es o → IsPlace rank eq l es plan o
+  pub place_is : {T : Type 0} (rank : T → ℤ) (plan : Plan T) (o : Option V) → IsPlanOf test l h es (shown_plan rank plan) → IsLikeAbove eq l (rank plan.end) es o → IsEditPlan rank eq l es plan o
   place_is rank plan o i like =
       let up = end_up eq test h es c (rank plan.end) i.end in
       record {
         order = omega (arith, ints);
-        rest = rest_is (shown_plan rank plan) up i;
-        left = left_is rank test l low high es s plan.left i.left;
+        tail = rest_is (shown_plan rank plan) up i;
+        predecessor = left_is rank test l low high es s plan.predecessor i.predecessor;
         first = found_ends rank test plan.first (start_at l es) i.first;
-        gone = i.gone;
+        removed_count = i.removed_count;
         above = like;
       }
 
 -- the start of the entry that a range is joined with
-pub joined_left : {T : Type 0} (rank : T → ℤ) (l f : ℤ) (left : Option (RangeEntry T Bool)) → Some f ≡ joined_start l (option_map (shown_found rank) left) → option_map (λ x. rank x.start) left ≡ Some f
+pub joined_left : {T : Type 0} (rank : T → ℤ) (l f : ℤ) (predecessor : Option (RangeEntry T Bool)) → Some f ≡ joined_start l (option_map (shown_found rank) predecessor) → option_map (λ x. rank x.start) predecessor ≡ Some f
 joined_left rank l f None q = cc
 joined_left rank l f (Some x) q =
     elim (x.value && (int_le l (rank x.end) || int_eq l (rank x.end +ℤ pos 1))) as (λ b. Some f ≡ cond b (Some (rank x.start)) None → Some (rank x.start) ≡ Some f) [

@@ -3,9 +3,9 @@
 ghost use Rattle.std.specs.Prelude.{◌≡◌, Some, None, OnOk, OnErr, IsSome};
 ghost use Rattle.std.specs.Option.{option_map};
 ghost use Rattle.blaze_table.specs.Canonical.{IsCanonical};
-ghost use Rattle.blaze_table.specs.Edited.{IsPlace};
+ghost use Rattle.blaze_table.specs.Edited.{IsEditPlan};
 ghost use Rattle.blaze_table.specs.Entries.{entry};
-ghost use Rattle.blaze_table.specs.Planned.{IsEndPut, IsPutAt, IsWorked};
+ghost use Rattle.blaze_table.specs.Planned.{IsEntryExtended, IsEntryBetween, IsWorked};
 ghost use Rattle.blaze_table.specs.Splice.{IsRangeTaken};
 ghost use Rattle.blaze_table.specs.Work.{IsRefused};
 
@@ -14,14 +14,14 @@ mod room;
 
 use blaze_entries::{Counted, Plan};
 use blaze_int::Integer;
-use place::{put, put_rest};
-use room::{clear, clear_above, goes, trim};
+use place::{put, split_tail};
+use room::{clear, clear_above, is_removed, trim};
 use std::alloc::AllocError;
 
 /// Inserts an entry from `lo` to the plan's end. It requires that the entry is joined with none below it. `above` is
 /// equal to the value of the entry that extends both below and above the range, if one exists. If an allocation fails,
 /// the entries are unchanged.
-pub fn put_at<T: Integer, V: Eq + Drop>(
+pub fn set_entry<T: Integer, V: Eq + Drop>(
     entries: &mut Counted<T, V>,
     lo: T,
     value: V,
@@ -29,9 +29,9 @@ pub fn put_at<T: Integer, V: Eq + Drop>(
     above: Option<V>,
 ) -> Result<(), AllocError>
     requires canonical { IsCanonical V.eq entries.old.entries }
-    requires place { IsPlace T.rank V.eq (T.rank lo) entries.old.entries plan above }
+    requires place { IsEditPlan T.rank V.eq (T.rank lo) entries.old.entries plan above }
     ensures put { OnOk result
-        (IsPutAt V.eq
+        (IsEntryBetween V.eq
         (entry (T.rank lo) (T.rank plan.end) value) entries.old.entries entries.new.entries) }
     ensures worked { OnOk result (IsWorked 2 0 entries.old entries.new) }
     ensures err { OnErr result (IsRefused entries.old entries.new) }
@@ -39,9 +39,9 @@ pub fn put_at<T: Integer, V: Eq + Drop>(
     entries.in_hand();
     put(entries, lo, value, plan, above)?;
     entries.in_hand();
-    trim(entries, lo, plan.left);
+    trim(entries, lo, plan.predecessor);
     entries.in_hand();
-    clear_above(entries, lo, plan.gone);
+    clear_above(entries, lo, plan.removed_count);
     Ok(())
 }
 
@@ -54,44 +54,44 @@ pub fn extend<T: Integer, V: Eq + Drop>(
     plan: Plan<T>,
 ) -> Result<(), AllocError>
     requires canonical { IsCanonical V.eq entries.old.entries }
-    requires place { IsPlace T.rank V.eq (T.rank lo) entries.old.entries plan None }
-    requires joined { option_map (λ f. T.rank f.start) plan.left ≡ Some (T.rank first) }
+    requires place { IsEditPlan T.rank V.eq (T.rank lo) entries.old.entries plan None }
+    requires joined { option_map (λ f. T.rank f.start) plan.predecessor ≡ Some (T.rank first) }
     ensures extended { OnOk result
-        (IsEndPut V.eq (T.rank first) (T.rank plan.end) entries.old.entries entries.new.entries) }
+        (IsEntryExtended V.eq (T.rank first) (T.rank plan.end) entries.old.entries entries.new.entries) }
     ensures worked { OnOk result (IsWorked 1 0 entries.old entries.new) }
     ensures err { OnErr result (IsRefused entries.old entries.new) }
 {
     entries.in_hand();
-    put_rest(entries, lo, plan.end, plan.rest, None)?;
+    split_tail(entries, lo, plan.end, plan.tail, None)?;
     entries.in_hand();
-    let first_goes = goes(lo, plan.first, plan.rest);
-    clear(entries, lo, first_goes, plan.gone);
+    let is_first_removed = is_removed(lo, plan.first, plan.tail);
+    clear(entries, lo, is_first_removed, plan.removed_count);
     entries.set_end(first, plan.end);
     Ok(())
 }
 
 /// Removes the keys from `lo` to the plan's end. `above` is equal to the value of the entry that extends both below and
 /// above them, if one exists. If an allocation fails, the entries are unchanged.
-pub fn take_out<T: Integer, V: Eq + Drop>(
+pub fn remove_keys<T: Integer, V: Eq + Drop>(
     entries: &mut Counted<T, V>,
     lo: T,
     plan: Plan<T>,
     above: Option<V>,
 ) -> Result<(), AllocError>
     requires canonical { IsCanonical V.eq entries.old.entries }
-    requires place { IsPlace T.rank V.eq (T.rank lo) entries.old.entries plan above }
+    requires place { IsEditPlan T.rank V.eq (T.rank lo) entries.old.entries plan above }
     ensures cut { OnOk result (IsRangeTaken V.eq
         (T.rank lo) (T.rank plan.end) entries.old.entries entries.new.entries) }
     ensures worked { OnOk result (IsWorked 1 0 entries.old entries.new) }
-    ensures refused { OnErr result (IsSome plan.rest) }
+    ensures refused { OnErr result (IsSome plan.tail) }
     ensures err { OnErr result (IsRefused entries.old entries.new) }
 {
     entries.in_hand();
-    put_rest(entries, lo, plan.end, plan.rest, above)?;
+    split_tail(entries, lo, plan.end, plan.tail, above)?;
     entries.in_hand();
-    trim(entries, lo, plan.left);
+    trim(entries, lo, plan.predecessor);
     entries.in_hand();
-    let first_goes = goes(lo, plan.first, plan.rest);
-    clear(entries, lo, first_goes, plan.gone);
+    let is_first_removed = is_removed(lo, plan.first, plan.tail);
+    clear(entries, lo, is_first_removed, plan.removed_count);
     Ok(())
 }

@@ -5,9 +5,9 @@ ghost use Rattle.std.specs.Option.{option_map};
 ghost use Rattle.blaze_entries.specs.Found.{shown_ends};
 ghost use Rattle.blaze_entries.specs.Starts.{start_at};
 ghost use Rattle.blaze_table.specs.Canonical.{IsCanonical};
-ghost use Rattle.blaze_table.specs.Edited.{HasRoom, IsPlace, IsRestPut};
+ghost use Rattle.blaze_table.specs.Edited.{HasRoom, IsEditPlan, IsTailSplit};
 ghost use Rattle.blaze_table.specs.Entries.{entry};
-ghost use Rattle.blaze_table.specs.Planned.{inner, IsStartPut, IsWorked};
+ghost use Rattle.blaze_table.specs.Planned.{inner_entries, IsEntrySet, IsWorked};
 ghost use Rattle.blaze_table.specs.Work.{IsRefused};
 
 use blaze_entries::{Counted, Plan, RangeEntry};
@@ -18,22 +18,22 @@ use std::alloc::AllocError;
 /// If an entry extends past `end`, makes the part above `end` a separate entry. The entry itself is moved there, or, if
 /// it starts below `lo`, a new entry with the value `above` is inserted. If an allocation fails, the entries are
 /// unchanged.
-pub fn put_rest<T: Integer, V: Drop>(
+pub fn split_tail<T: Integer, V: Drop>(
     entries: &mut Counted<T, V>,
     lo: T,
     end: T,
-    rest: Option<RangeEntry<T, ()>>,
+    tail: Option<RangeEntry<T, ()>>,
     above: Option<V>,
 ) -> Result<(), AllocError>
-    requires room { HasRoom (T.rank end) entries.old.entries (option_map (shown_ends T.rank) rest) }
-    requires above { IfSome rest (λ r. T.rank r.start <ℤ T.rank lo → IsSome above) }
-    ensures put { OnOk result (IsRestPut (T.rank lo) (T.rank end)
-        (option_map (shown_ends T.rank) rest) above entries.old.entries entries.new.entries) }
+    requires room { HasRoom (T.rank end) entries.old.entries (option_map (shown_ends T.rank) tail) }
+    requires above { IfSome tail (λ r. T.rank r.start <ℤ T.rank lo → IsSome above) }
+    ensures put { OnOk result (IsTailSplit (T.rank lo) (T.rank end)
+        (option_map (shown_ends T.rank) tail) above entries.old.entries entries.new.entries) }
     ensures worked { OnOk result (IsWorked 1 0 entries.old entries.new) }
-    ensures refused { OnErr result (IsSome rest) }
+    ensures refused { OnErr result (IsSome tail) }
     ensures err { OnErr result (entries.new ≡ entries.old) }
 {
-    match rest {
+    match tail {
         None => Ok(()),
         Some(ends) => {
             ends.end.in_hand();
@@ -51,7 +51,7 @@ pub fn put_rest<T: Integer, V: Drop>(
 }
 
 // Inserts an entry where none starts, and makes the part above it a separate entry.
-fn put_new<T: Integer, V: Eq + Drop>(
+fn insert_planned<T: Integer, V: Eq + Drop>(
     entries: &mut Counted<T, V>,
     lo: T,
     value: V,
@@ -59,18 +59,18 @@ fn put_new<T: Integer, V: Eq + Drop>(
     above: Option<V>,
 ) -> Result<(), AllocError>
     requires canonical { IsCanonical V.eq entries.old.entries }
-    requires place { IsPlace T.rank V.eq (T.rank lo) entries.old.entries plan above }
+    requires place { IsEditPlan T.rank V.eq (T.rank lo) entries.old.entries plan above }
     requires absent { start_at (T.rank lo) entries.old.entries ≡ None }
-    ensures ok { OnOk result (IsStartPut V.eq
+    ensures ok { OnOk result (IsEntrySet V.eq
         (entry (T.rank lo) (T.rank plan.end) value) entries.old.entries entries.new.entries) }
-    ensures gone { OnOk result
-        (length (inner (T.rank lo) (T.rank plan.end) entries.new.entries) ≡ plan.gone) }
+    ensures removed_count { OnOk result
+        (length (inner_entries (T.rank lo) (T.rank plan.end) entries.new.entries) ≡ plan.removed_count) }
     ensures worked { OnOk result (IsWorked 2 0 entries.old entries.new) }
     ensures err { OnErr result (IsRefused entries.old entries.new) }
 {
     entries.in_hand();
     entries.insert(lo, plan.end, value)?;
-    if let Err(refused) = put_rest(entries, lo, plan.end, plan.rest, above) {
+    if let Err(refused) = split_tail(entries, lo, plan.end, plan.tail, above) {
         entries.remove(lo);
         return Err(refused);
     }
@@ -78,31 +78,31 @@ fn put_new<T: Integer, V: Eq + Drop>(
 }
 
 // Replaces the entry that starts at `lo`, and makes the part above the new one a separate entry.
-fn put_over<T: Integer, V: Eq + Drop>(
+fn replace_planned<T: Integer, V: Eq + Drop>(
     entries: &mut Counted<T, V>,
     lo: T,
     value: V,
     plan: Plan<T>,
 ) -> Result<(), AllocError>
     requires canonical { IsCanonical V.eq entries.old.entries }
-    requires place { IsPlace T.rank V.eq (T.rank lo) entries.old.entries plan None }
+    requires place { IsEditPlan T.rank V.eq (T.rank lo) entries.old.entries plan None }
     requires present { IsSome (start_at (T.rank lo) entries.old.entries) }
-    ensures ok { OnOk result (IsStartPut V.eq
+    ensures ok { OnOk result (IsEntrySet V.eq
         (entry (T.rank lo) (T.rank plan.end) value) entries.old.entries entries.new.entries) }
-    ensures gone { OnOk result
-        (length (inner (T.rank lo) (T.rank plan.end) entries.new.entries) ≡ plan.gone) }
+    ensures removed_count { OnOk result
+        (length (inner_entries (T.rank lo) (T.rank plan.end) entries.new.entries) ≡ plan.removed_count) }
     ensures worked { OnOk result (IsWorked 2 0 entries.old entries.new) }
     ensures err { OnErr result (IsRefused entries.old entries.new) }
 {
-    let Plan { end, rest, .. } = plan;
-    match rest {
+    let Plan { end, tail, .. } = plan;
+    match tail {
         None => {
             entries.replace(lo, end, value);
             Ok(())
         }
         Some(ends) => {
             if is_below(lo, ends.start) {
-                put_rest(entries, lo, end, Some(ends), None)?;
+                split_tail(entries, lo, end, Some(ends), None)?;
                 entries.replace(lo, end, value);
                 Ok(())
             } else {
@@ -124,17 +124,17 @@ pub fn put<T: Integer, V: Eq + Drop>(
     above: Option<V>,
 ) -> Result<(), AllocError>
     requires canonical { IsCanonical V.eq entries.old.entries }
-    requires place { IsPlace T.rank V.eq (T.rank lo) entries.old.entries plan above }
-    ensures ok { OnOk result (IsStartPut V.eq
+    requires place { IsEditPlan T.rank V.eq (T.rank lo) entries.old.entries plan above }
+    ensures ok { OnOk result (IsEntrySet V.eq
         (entry (T.rank lo) (T.rank plan.end) value) entries.old.entries entries.new.entries) }
-    ensures gone { OnOk result
-        (length (inner (T.rank lo) (T.rank plan.end) entries.new.entries) ≡ plan.gone) }
+    ensures removed_count { OnOk result
+        (length (inner_entries (T.rank lo) (T.rank plan.end) entries.new.entries) ≡ plan.removed_count) }
     ensures worked { OnOk result (IsWorked 2 0 entries.old entries.new) }
     ensures err { OnErr result (IsRefused entries.old entries.new) }
 {
     entries.in_hand();
     match plan.first {
-        Some(_) => put_over(entries, lo, value, plan),
-        None => put_new(entries, lo, value, plan, above),
+        Some(_) => replace_planned(entries, lo, value, plan),
+        None => insert_planned(entries, lo, value, plan, above),
     }
 }

@@ -5,7 +5,7 @@ ghost use Rattle.std.specs.Option.{option_map};
 ghost use Rattle.blaze_entries.specs.Found.{shown_ends};
 ghost use Rattle.blaze_entries.specs.Starts.{below, from, start_at, without};
 ghost use Rattle.blaze_table.specs.Canonical.{IsCanonical};
-ghost use Rattle.blaze_table.specs.Edited.{IsLeft, goes};
+ghost use Rattle.blaze_table.specs.Edited.{IsPredecessor, is_removed};
 ghost use Rattle.blaze_table.specs.Planned.{IsWorked};
 ghost use Rattle.blaze_table.specs.Splice.{before};
 
@@ -14,14 +14,14 @@ use blaze_int::Integer;
 use blaze_int::compare::{is_at_most, is_below};
 
 /// Returns whether an edit removes the entry that starts at `lo`: it exists and does not extend above the range.
-pub fn goes<T: Integer>(
+pub fn is_removed<T: Integer>(
     lo: T,
     first: Option<RangeEntry<T, bool>>,
-    rest: Option<RangeEntry<T, ()>>,
+    tail: Option<RangeEntry<T, ()>>,
 ) -> bool
-    ensures { result ≡ goes (T.rank lo) first (option_map (shown_ends T.rank) rest) }
+    ensures { result ≡ is_removed (T.rank lo) first (option_map (shown_ends T.rank) tail) }
 {
-    match (first, rest) {
+    match (first, tail) {
         (None, _) => false,
         (Some(_), None) => true,
         (Some(_), Some(ends)) => is_below(lo, ends.start) || is_below(ends.start, lo),
@@ -32,18 +32,18 @@ pub fn goes<T: Integer>(
 pub fn trim<T: Integer, V: Eq>(
     entries: &mut Counted<T, V>,
     lo: T,
-    left: Option<RangeEntry<T, bool>>,
+    predecessor: Option<RangeEntry<T, bool>>,
 )
     requires canonical { IsCanonical V.eq (below (T.rank lo) entries.old.entries) }
-    requires left { IsLeft (T.rank lo) (below (T.rank lo) entries.old.entries)
-        (option_map (shown_ends T.rank) left) }
+    requires predecessor { IsPredecessor (T.rank lo) (below (T.rank lo) entries.old.entries)
+        (option_map (shown_ends T.rank) predecessor) }
     ensures entries { entries.new.entries
         ≡ before (T.rank lo) (below (T.rank lo) entries.old.entries)
         ++ from (T.rank lo) entries.old.entries }
     ensures worked { IsWorked 0 0 entries.old entries.new }
 {
     entries.in_hand();
-    if let Some(found) = left {
+    if let Some(found) = predecessor {
         if is_at_most(lo, found.end) {
             found.start.in_hand();
             entries.set_end(found.start, lo.sub_one());
@@ -87,20 +87,25 @@ pub fn clear_above<T: Integer, V: Drop>(entries: &mut Counted<T, V>, key: T, cou
     entries.in_hand();
 }
 
-// Removes the entry that starts at `lo` if `goes` is true.
-fn remove_start<T: Integer, V: Drop>(entries: &mut Counted<T, V>, lo: T, goes: bool)
-    requires { goes ≡ is_some (start_at (T.rank lo) entries.old.entries) }
+// Removes the entry that starts at `lo` if `is_removed` is true.
+fn remove_start<T: Integer, V: Drop>(entries: &mut Counted<T, V>, lo: T, is_removed: bool)
+    requires { is_removed ≡ is_some (start_at (T.rank lo) entries.old.entries) }
     ensures entries { entries.new.entries ≡ without (T.rank lo) entries.old.entries }
     ensures worked { IsWorked 0 0 entries.old entries.new }
 {
-    if goes {
+    if is_removed {
         entries.remove(lo);
     }
 }
 
-/// Removes the entry that starts at `lo` if `goes` is true, and the next `count` entries that start above it.
-pub fn clear<T: Integer, V: Drop>(entries: &mut Counted<T, V>, lo: T, goes: bool, count: usize)
-    requires here { goes ≡ is_some (start_at (T.rank lo) entries.old.entries) }
+/// Removes the entry that starts at `lo` if `is_removed` is true, and the next `count` entries that start above it.
+pub fn clear<T: Integer, V: Drop>(
+    entries: &mut Counted<T, V>,
+    lo: T,
+    is_removed: bool,
+    count: usize,
+)
+    requires here { is_removed ≡ is_some (start_at (T.rank lo) entries.old.entries) }
     requires above { count ≤ length (from (T.rank lo +ℤ pos 1) entries.old.entries) }
     ensures entries { entries.new.entries
         ≡ below (T.rank lo) entries.old.entries
@@ -108,6 +113,6 @@ pub fn clear<T: Integer, V: Drop>(entries: &mut Counted<T, V>, lo: T, goes: bool
     ensures worked { IsWorked 0 0 entries.old entries.new }
 {
     entries.in_hand();
-    remove_start(entries, lo, goes);
+    remove_start(entries, lo, is_removed);
     clear_above(entries, lo, count);
 }

@@ -14,7 +14,7 @@ use std::mem;
 #[derive(Drop)]
 pub(crate) enum Held<V> {
     /// The value was not moved.
-    Kept(V),
+    Present(V),
     /// The value was moved. The entry at this position has it, or an equal one.
     Moved(usize),
 }
@@ -28,7 +28,7 @@ pub(crate) fn held_of<T: Integer, V: Eq + Clone>(
 {
     let mut held = Vec::new(alloc);
     for pair in placed {
-        held.push(Held::Kept(pair.value))?;
+        held.push(Held::Present(pair.value))?;
     }
     Ok(held)
 }
@@ -46,7 +46,7 @@ fn value_at<T: Integer, V: Eq + Clone>(
     ensures held { held.new.items ≡ moved_to 0 held.old.items index }
 {
     match mem::replace(&mut held[index], Held::Moved(0)) {
-        Held::Kept(value) => Ok(value),
+        Held::Present(value) => Ok(value),
         Held::Moved(at) => {
             let value = entries[at].2.clone()?;
             Ok(value)

@@ -7,7 +7,7 @@ ghost use Rattle.blaze_table.specs.Pieces.{IsWaiting, KeepsReaching, ArePieces};
 
 use crate::sweep::placed::Placed;
 use crate::sweep::push::push_entry;
-use crate::sweep::waiting::{drop_top, top_of};
+use crate::sweep::waiting::{drop_top, latest_waiting};
 use blaze_int::Integer;
 use blaze_int::compare::{is_at_most, is_below};
 use std::alloc::{AllocError, Global};
@@ -35,7 +35,7 @@ fn sweep_to<T: Integer, V>(
 {
     let mut at = from;
     to.in_hand();
-    while let Some(top) = top_of(waiting) {
+    while let Some(top) = latest_waiting(waiting) {
         let (_, index) = top;
         let pair = &placed[index];
         let end = pair.end;

@@ -2,7 +2,7 @@
 ghost use Rattle.std.specs.Prelude.{All, IfOk};
 ghost use Rattle.blaze_table.specs.Canonical.{AreKeys};
 ghost use Rattle.blaze_table.specs.Entries.{shown_list};
-ghost use Rattle.blaze_table.specs.Pieces.{ArePlaced, AreAscending, EndsAreKeys};
+ghost use Rattle.blaze_table.specs.Pieces.{AreAllPairsPlaced, AreAscending, EndsAreKeys};
 
 use blaze_int::Integer;
 use blaze_int::compare::is_at_most;
@@ -23,7 +23,7 @@ pub(crate) fn placed_of<T: Integer, V: Eq + Clone>(
     pairs: Vec<(T, T, V)>,
 ) -> Result<Vec<Placed<T, V>>, AllocError>
     requires { AreKeys T.low T.high (shown_list T.rank pairs.items) }
-    ensures placed { IfOk result (λ placed. ArePlaced T.rank (shown_list T.rank pairs.items)
+    ensures placed { IfOk result (λ placed. AreAllPairsPlaced T.rank (shown_list T.rank pairs.items)
         placed.items) }
     ensures ascending { IfOk result (λ placed. AreAscending T.rank placed.items) }
     ensures keys { IfOk result (λ placed. All (EndsAreKeys T.rank T.low T.high) placed.items) }

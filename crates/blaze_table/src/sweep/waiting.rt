@@ -8,7 +8,7 @@ use std::alloc::Global;
 use std::collections::BinaryHeap;
 
 /// Returns the position and the index of the pair with the greatest position.
-pub(crate) fn top_of(waiting: &BinaryHeap<(usize, usize), Global>) -> Option<(usize, usize)>
+pub(crate) fn latest_waiting(waiting: &BinaryHeap<(usize, usize), Global>) -> Option<(usize, usize)>
     requires { IsHeap place_cmp (heap_items waiting.now) }
     ensures top { IfSome result (λ top. slice_get (heap_items waiting.now) 0 ≡ Some top) }
     ensures greatest { IfSome result (λ top. All (λ w. w.0 ≤ top.0) (heap_items waiting.now)) }

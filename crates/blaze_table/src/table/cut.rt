@@ -3,7 +3,7 @@ ghost use Rattle.std.specs.Prelude.{◌≡◌, ◌-◌, ◌≤ℤ◌, [], length
 ghost use Rattle.std.specs.Prelude.{MatchOption};
 ghost use Rattle.blaze_table.specs.Entries.{Entry, at, SameOption};
 ghost use Rattle.blaze_table.specs.Painted.{ClonesAreAlike};
-ghost use Rattle.blaze_table.specs.Cut.{IsCut, IsFirstCut, IsLastCut, IsRangeCut, IsAmongOthers};
+ghost use Rattle.blaze_table.specs.Cut.{IsKeyRemoved, IsFirstKeyRemoved, IsLastKeyRemoved, IsRangeCut, IsAmongOthers};
 ghost use Rattle.blaze_table.specs.Cut.{GoesOnAbove};
 ghost use Rattle.blaze_table.specs.Work.{IsRefused, IsCountedCut};
 
@@ -19,7 +19,7 @@ impl<T: Integer, V: Eq + Clone> RangeTable<T, V> {
     pub fn cut_key(&mut self, key: T) -> Result<Option<V>, AllocError>
         requires { ClonesAreAlike V.is_clone V.eq }
         ensures ok { OnOk result
-            (IsCut V.eq T.low T.high (T.rank key) self.old.entries self.new.entries) }
+            (IsKeyRemoved V.eq T.low T.high (T.rank key) self.old.entries self.new.entries) }
         ensures value { IfOk result
             (λ value. SameOption V.eq (at self.old.entries (T.rank key)) value) }
         ensures none { at self.old.entries (T.rank key) ≡ None → (result ≡ Ok None)
@@ -40,7 +40,7 @@ impl<T: Integer, V: Eq + Clone> RangeTable<T, V> {
     pub fn pop_first(&mut self) -> Result<Option<(T, V)>, AllocError>
         requires { ClonesAreAlike V.is_clone V.eq }
         ensures ok { IfOk result (λ popped. MatchOption popped ((self.old.entries ≡ [])
-            × (self.new ≡ self.old)) (λ pair. IsFirstCut V.eq T.low T.high (T.rank pair.0) pair.1
+            × (self.new ≡ self.old)) (λ pair. IsFirstKeyRemoved V.eq T.low T.high (T.rank pair.0) pair.1
             self.old.entries self.new.entries)) }
         ensures counted { OnOk result (IsCountedCut self.old self.new) }
         ensures refused { OnErr result ((first : Entry V)
@@ -63,7 +63,7 @@ impl<T: Integer, V: Eq + Clone> RangeTable<T, V> {
     pub fn pop_last(&mut self) -> Result<Option<(T, V)>, AllocError>
         requires { ClonesAreAlike V.is_clone V.eq }
         ensures ok { IfOk result (λ popped. MatchOption popped ((self.old.entries ≡ [])
-            × (self.new ≡ self.old)) (λ pair. IsLastCut V.eq T.low T.high (T.rank pair.0) pair.1
+            × (self.new ≡ self.old)) (λ pair. IsLastKeyRemoved V.eq T.low T.high (T.rank pair.0) pair.1
             self.old.entries self.new.entries)) }
         ensures counted { OnOk result (IsCountedCut self.old self.new) }
         ensures refused { OnErr result ((last : Entry V)

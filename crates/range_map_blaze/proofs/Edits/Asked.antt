@@ -1,5 +1,5 @@
 -- A function that was called at pieces, one after another: its answers, and the edits that bring them into a map.
-use Rattle.range_map_blaze.proofs.Words.{some_none, AllocError, ◌≡◌, ℤ, pos, ◌+ℤ◌, ◌-ℤ◌, ◌≤ℤ◌, Bool, true, false, cond, List, [], ◌∷◌, ◌++◌, length, map, Option, Some, None, Ok, refl, ◌∙◌, sym, ap, subst, arith, ints, IsEquivalence, options_equiv, Mut, FoldsTo, zip, option_eq, option_or, Result, same_along, same_back, same_itself, same_or_left, same_trans, or_assoc, or_none, IsCanonical, AreKeys, HasEnd, Entry, entry, at, SameEntries, SameOption, glue, IsBelow, are_keys_glue, IsAbove, IsAbove-from_apart, at_append, at_before, at_in, at_over, at_under, by_place, at_glue, below_glue, below_more, canonical_glue, at_past, values, answered, AnswersAtValue, SomeCallAtValue, option_same, AreEndsOf, ArePiecesAsked, IsPieceAsked, answer_or}
+use Rattle.range_map_blaze.proofs.Words.{some_none, AllocError, ◌≡◌, ℤ, pos, ◌+ℤ◌, ◌-ℤ◌, ◌≤ℤ◌, Bool, true, false, cond, List, [], ◌∷◌, ◌++◌, length, map, Option, Some, None, Ok, refl, ◌∙◌, sym, ap, subst, arith, ints, IsEquivalence, options_equiv, Mut, FoldsTo, zip, option_eq, option_or, Result, same_along, same_back, same_itself, same_or_left, same_trans, or_assoc, or_none, IsCanonical, AreKeys, HasEnd, Entry, entry, at, SameEntries, SameOption, glue, IsBelow, are_keys_glue, IsAbove, IsAbove-from_apart, at_append, at_before, at_in, at_over, at_under, by_place, at_glue, below_glue, below_more, canonical_glue, at_past, values, entries_with_results, AnswersAtValue, SomeCallAtValue, option_same, AreEndsOf, ArePiecesAsked, IsPieceAsked, answer_or}
 
 -- a piece with its answer in place of what it has
 abbrev pub with_answer : {V : Type 0} → Entry (Option V) → Option V → Entry (Option V)
@@ -65,7 +65,7 @@ module _ {F A V : Type 0} (shows : A → Option V) (g : Mut F A (Result (Option 
 
   -- the pieces with their answers
   abbrev pub answers_at : (xs : List (Entry (Option V))) (f f' : F) (edits new : List (Entry (Option V))) → ArePiecesAsked shows g eq xs f f' edits new → List (Entry (Option V))
-  answers_at xs f f' edits new p = answered xs (results xs f f' edits new p)
+  answers_at xs f f' edits new p = entries_with_results xs (results xs f f' edits new p)
 
   -- where every answer equals what is there, there is no edit
   pub no_edit : (xs : List (Entry (Option V))) (f f' : F) (edits new : List (Entry (Option V))) (p : ArePiecesAsked shows g eq xs f f' edits new) → SameEntries (option_eq eq) (answers_at xs f f' edits new p) xs → new ≡ edits
@@ -132,13 +132,13 @@ module _ {F A V : Type 0} (shows : A → Option V) (g : Mut F A (Result (Option 
       pub content : (k : ℤ) → SameOption eq (answer_or (at new k) (old k)) (with_rest edits answers k)
       pub ends : (all : List (Entry (Option V))) → AreEndsOf all edits → AreEndsOf all answers → AreEndsOf all new
 
-    none_answered : (xs : List (Entry (Option V))) (rs : List (Option V)) (k : ℤ) → at xs k ≡ None → at (answered xs rs) k ≡ None
+    none_answered : (xs : List (Entry (Option V))) (rs : List (Option V)) (k : ℤ) → at xs k ≡ None → at (entries_with_results xs rs) k ≡ None
     none_answered [] rs k p = refl
     none_answered (x ∷ xs) [] k p = refl
     none_answered (x ∷ xs) (r ∷ rs) k p = by_place x k
         (λ l u. absurd (some_none (sym (at_in x xs k l u) ∙ p)))
-        (λ u. at_under (with_answer x r) (answered xs rs) k u ∙ none_answered xs rs k (sym (at_under x xs k u) ∙ p))
-        (λ u. at_over (with_answer x r) (answered xs rs) k u ∙ none_answered xs rs k (sym (at_over x xs k u) ∙ p))
+        (λ u. at_under (with_answer x r) (entries_with_results xs rs) k u ∙ none_answered xs rs k (sym (at_under x xs k u) ∙ p))
+        (λ u. at_over (with_answer x r) (entries_with_results xs rs) k u ∙ none_answered xs rs k (sym (at_over x xs k u) ∙ p))
 
     pub made : (xs : List (Entry (Option V))) (b : ℤ) (f f' : F) (edits new : List (Entry (Option V))) (p : ArePiecesAsked shows g eq xs f f' edits new)
         → IsCanonical same xs → AreKeys low high xs → IsAbove (b -ℤ pos 1) xs → Has old xs → AreBelow b edits → AreMade edits new (answers_at xs f f' edits new p)

@@ -21,11 +21,11 @@ module _ {V : Type 0} (eq : V → V → Bool) (laws : IsEquivalence eq) (l h : �
   under_is k u = ap (λ b. cond (b && int_le k h) (change (at old k)) (at old k)) (le_false l k u)
 
   over_is : (k : ℤ) → h <ℤ k → changed l h change (at old) k ≡ at old k
-  over_is k u = ap (λ b. cond (int_le l k && b) (change (at old k)) (at old k)) (le_false k h u) ∙ never (int_le l k)
+  over_is k u = ap (λ b. cond (int_le l k && b) (change (at old k)) (at old k)) (le_false k h u) ∙ never_equal (int_le l k)
     where
-      never : (b : Bool) → cond (b && false) (change (at old k)) (at old k) ≡ at old k
-      never true = refl
-      never false = refl
+      never_equal : (b : Bool) → cond (b && false) (change (at old k)) (at old k) ≡ at old k
+      never_equal true = refl
+      never_equal false = refl
 
   -- the answers, key by key
   pub answers_by_keys : (pieces answers : List (Entry (Option V))) → IsFilledWithNone eq l h old pieces → AreGivenBy eq change pieces answers → (k : ℤ) → SameOption eq (updated answers (at old) k) (changed l h change (at old) k)

@@ -1,5 +1,5 @@
 -- The first and the last entry have the least and the greatest key.
-use Rattle.range_map_blaze.proofs.Words.{◌≡◌, ℕ, zero, suc, ◌-◌, ◌≤◌, ℤ, ◌≤ℤ◌, ◌<ℤ◌, Bool, List, [], ◌∷◌, length, Option, Some, None, refl, ◌∙◌, subst, arith, slice_get, MatchOption, option_map, ints, CountedEntries, IsFirstCut, IsLastCut, Entry, at, IsDisjoint, IsAscending, at_in, at_under, at_over, in_order, IsFirstPair, IsLastPair, PopsFirst, PopsLast}
+use Rattle.range_map_blaze.proofs.Words.{◌≡◌, ℕ, zero, suc, ◌-◌, ◌≤◌, ℤ, ◌≤ℤ◌, ◌<ℤ◌, Bool, List, [], ◌∷◌, length, Option, Some, None, refl, ◌∙◌, subst, arith, slice_get, MatchOption, option_map, ints, CountedEntries, IsFirstKeyRemoved, IsLastKeyRemoved, Entry, at, IsDisjoint, IsAscending, at_in, at_under, at_over, in_order, IsFirstPair, IsLastPair, PopsFirst, PopsLast}
 
 module _ {V : Type 0} where
   none_some : (v : V) → None ≡ Some v → ⊥
@@ -68,7 +68,7 @@ module _ {V : Type 0} where
 
 -- the table's first key taken out is the map's least key
 pub pops_least : {T V : Type 0} (rank : T → ℤ) (eq : V → V → Bool) (low high : ℤ) (popped : Option (T × V)) (old new : CountedEntries V) → IsDisjoint old.entries → IsAscending old.entries
-    → MatchOption popped ((old.entries ≡ []) × (new ≡ old)) (λ pair. IsFirstCut eq low high (rank pair.0) pair.1 old.entries new.entries)
+    → MatchOption popped ((old.entries ≡ []) × (new ≡ old)) (λ pair. IsFirstKeyRemoved eq low high (rank pair.0) pair.1 old.entries new.entries)
     → MatchOption popped ((old.entries ≡ []) × (new ≡ old)) (λ pair. PopsFirst eq low high (rank pair.0) pair.1 old.entries new.entries)
 pops_least rank eq low high None old new d a m = m
 pops_least rank eq low high (Some pair) old new d a m =
@@ -77,7 +77,7 @@ pops_least rank eq low high (Some pair) old new d a m =
 
 -- and its last key the map's greatest
 pub pops_greatest : {T V : Type 0} (rank : T → ℤ) (eq : V → V → Bool) (low high : ℤ) (popped : Option (T × V)) (old new : CountedEntries V) → IsDisjoint old.entries → IsAscending old.entries
-    → MatchOption popped ((old.entries ≡ []) × (new ≡ old)) (λ pair. IsLastCut eq low high (rank pair.0) pair.1 old.entries new.entries)
+    → MatchOption popped ((old.entries ≡ []) × (new ≡ old)) (λ pair. IsLastKeyRemoved eq low high (rank pair.0) pair.1 old.entries new.entries)
     → MatchOption popped ((old.entries ≡ []) × (new ≡ old)) (λ pair. PopsLast eq low high (rank pair.0) pair.1 old.entries new.entries)
 pops_greatest rank eq low high None old new d a m = m
 pops_greatest rank eq low high (Some pair) old new d a m =

@@ -4,7 +4,7 @@ ghost use Rattle.blaze_table.specs.Chosen.{left_with_right, left_alone, IsChosen
 ghost use Rattle.blaze_table.specs.Painted.{ClonesAreAlike};
 
 use crate::map::RangeMapBlaze;
-use crate::operators::chosen::{lent_chosen, owned_chosen};
+use crate::operators::chosen::{borrowed_chosen, owned_chosen};
 use crate::operators::cut::cut_ranges;
 use crate::operators::few::is_narrow;
 use blaze_int::Integer;
@@ -24,7 +24,7 @@ pub fn within_keys<T: Integer, V: Eq + Clone, W: Eq + Clone>(
         keys.now.entries new.entries) }
 {
     let room = min(map.ranges_len(), keys.entries());
-    lent_chosen(
+    borrowed_chosen(
         map,
         map.seeking_range_values(),
         SeekingRangeValuesIter::new(keys),
@@ -61,7 +61,7 @@ pub fn outside_keys<T: Integer, V: Eq + Clone, W: Eq + Clone>(
         return outside_keys_by_value(map.clone()?, keys);
     }
     let room = map.ranges_len();
-    lent_chosen(
+    borrowed_chosen(
         map,
         map.seeking_range_values(),
         SeekingRangeValuesIter::new(keys),

@@ -13,7 +13,7 @@ use blaze_table::RangeTable;
 use std::alloc::AllocError;
 
 /// The map of what a choice gives at each key of two streams. The list of entries begins with space for `room` of them.
-pub fn lent_chosen<
+pub fn borrowed_chosen<
     'a,
     T: Integer,
     V: Eq + Clone,

@@ -6,7 +6,7 @@ ghost use Rattle.blaze_table.specs.Painted.{ClonesAreAlike};
 
 use crate::map::RangeMapBlaze;
 use crate::operators::by_keys::{outside_keys, outside_keys_by_value};
-use crate::operators::chosen::{lent_chosen, owned_chosen};
+use crate::operators::chosen::{borrowed_chosen, owned_chosen};
 use crate::operators::few::is_narrow;
 use crate::operators::set_of::set_of;
 use crate::operators::union::union_by_value;
@@ -28,7 +28,7 @@ pub fn symmetric_difference<T: Integer, V: Eq + Clone>(
         return alone(left, right);
     }
     let room = left.ranges_len().saturating_add(right.ranges_len());
-    lent_chosen(
+    borrowed_chosen(
         left,
         left.range_values(),
         right.range_values(),

@@ -4,7 +4,7 @@ ghost use Rattle.blaze_table.specs.Painted.{ClonesAreAlike};
 ghost use Rattle.range_map_blaze.specs.Union.{IsUnion};
 
 use crate::map::RangeMapBlaze;
-use crate::operators::chosen::{lent_chosen, owned_chosen};
+use crate::operators::chosen::{borrowed_chosen, owned_chosen};
 use crate::operators::few::{are_few, cover_few, is_narrow};
 use blaze_int::Integer;
 use blaze_streams::{OwnedRangeValuesIter, RightFirst, SortedDisjointMap, ValueCarrier};
@@ -189,7 +189,7 @@ fn merged<T: Integer, V: Eq + Clone>(
     left.in_hand();
     right.in_hand();
     let room = left.ranges_len().saturating_add(right.ranges_len());
-    lent_chosen(
+    borrowed_chosen(
         left,
         left.seeking_range_values(),
         right.range_values(),

@@ -1,5 +1,5 @@
 -- A text has one output: the content and the command determine a reply.
-use Rattle.range_map_cli.proofs.Words.{◌≡◌, ℕ, ◌+◌, ◌-◌, ◌^◌, min, decimal, ℤ, Bool, true, false, append-nil, List, [], ◌∷◌, ◌++◌, refl, sym, ap, ◌∙◌, subst, arith, append_assoc, cond, codes, ◌⊎◌, inl, inr, length, nat_list_eq_equiv, ints, bytes_decides, same_along, same_itself, Entry, at, entry, SameEntries, canonical_is_unique, Command, Blank, Get, At, Len, Entries, lines_of, IsGreatestPiece, Content, nothing, content_after_command, greatest_key, least_key, listed_entries, line, Lists, piece_text, Replies, commands_of, has_bad, Answers, error_line, IsOutput, content_after_commands}
+use Rattle.range_map_cli.proofs.Words.{◌≡◌, ℕ, ◌+◌, ◌-◌, ◌^◌, min, decimal, ℤ, Bool, true, false, append-nil, List, [], ◌∷◌, ◌++◌, refl, sym, ap, ◌∙◌, subst, arith, append_assoc, cond, codes, ◌⊎◌, inl, inr, length, nat_list_eq_equiv, ints, bytes_decides, same_along, same_itself, Entry, at, entry, SameEntries, canonical_is_unique, Command, Blank, Get, At, Len, Entries, lines_of, IsGreatestPiece, Content, empty_content, content_after_command, greatest_key, least_key, listed_entries, line, Lists, piece_text, Replies, commands_of, has_bad, Answers, error_line, IsOutput, content_after_commands}
 use Rattle.std.specs.Str.{bytes_eq}
 use Rattle.range_map_cli.specs.Commands.{Paint, Fill, Insert, Remove}
 use Rattle.range_map_cli.proofs.Sessions.Forwarding.{front_none}
@@ -43,7 +43,7 @@ one_answer content [] a b h k = h ∙ sym k
 one_answer content (c ∷ cs) a b h k = h.2 ∙ ap (λ l. l ++ h.1) (one_reply content c h.0 k.0 h.3 k.3) ∙ ap (λ l. k.0 ++ l) (one_answer (content_after_command c content) cs h.1 k.1 h.4 k.4) ∙ sym k.2
 
 pub one_output : (text a b : List ℕ) → IsOutput text a → IsOutput text b → a ≡ b
-one_output text a b h k = h.2 ∙ ap (λ l. l ++ (cond (has_bad (lines_of text)) (error_line (length (commands_of (lines_of text)))) [])) (one_answer nothing (commands_of (lines_of text)) h.0 k.0 h.1 k.1) ∙ sym k.2
+one_output text a b h k = h.2 ∙ ap (λ l. l ++ (cond (has_bad (lines_of text)) (error_line (length (commands_of (lines_of text)))) [])) (one_answer empty_content (commands_of (lines_of text)) h.0 k.0 h.1 k.1) ∙ sym k.2
 
 -- answers to commands, and then to others
 split_answers : (content : Content) (cs ds : List Command) (text : List ℕ) → Answers content (cs ++ ds) text → (first rest : List ℕ) × (text ≡ first ++ rest) × Answers content cs first × Answers (content_after_commands cs content) ds rest
@@ -57,11 +57,11 @@ abbrev pub bad_text : List ℕ → List ℕ
 bad_text text = cond (has_bad (lines_of text)) (error_line (length (commands_of (lines_of text)))) []
 
 -- the output begins with the answers to first commands
-pub output_from : (text out answers : List ℕ) (cs ds : List Command) → commands_of (lines_of text) ≡ cs ++ ds → Answers nothing cs answers → IsOutput text out
-    → (rest : List ℕ) × (out ≡ answers ++ (rest ++ bad_text text)) × Answers (content_after_commands cs nothing) ds rest
-output_from text out answers cs ds asked answered h =
-    let s = split_answers nothing cs ds h.0 (subst (λ l. Answers nothing l h.0) asked h.1) in
-    (s.1, h.2 ∙ ap (λ l. l ++ bad_text text) (s.2 ∙ ap (λ l. l ++ s.1) (one_answer nothing cs s.0 answers s.3 answered)) ∙ append_assoc answers s.1 (bad_text text), s.4)
+pub output_from : (text out answers : List ℕ) (cs ds : List Command) → commands_of (lines_of text) ≡ cs ++ ds → Answers empty_content cs answers → IsOutput text out
+    → (rest : List ℕ) × (out ≡ answers ++ (rest ++ bad_text text)) × Answers (content_after_commands cs empty_content) ds rest
+output_from text out answers cs ds command_of_request answered h =
+    let s = split_answers empty_content cs ds h.0 (subst (λ l. Answers empty_content l h.0) command_of_request h.1) in
+    (s.1, h.2 ∙ ap (λ l. l ++ bad_text text) (s.2 ∙ ap (λ l. l ++ s.1) (one_answer empty_content cs s.0 answers s.3 answered)) ∙ append_assoc answers s.1 (bad_text text), s.4)
 
 -- ---- ends of lines
 

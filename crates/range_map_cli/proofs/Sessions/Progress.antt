@@ -1,5 +1,5 @@
 -- What the steps of a session do to where it is in its text.
-use Rattle.range_map_cli.proofs.Words.{◌≡◌, ◌==◌, false, ℕ, ◌+◌, ◌-◌, ◌^◌, ℤ, List, [], ◌∷◌, ◌++◌, length, take, refl, sym, ap, ◌∙◌, subst, arith, append_assoc, append-nil, Option, Some, min, length-append, fun_ext, take_at, All-append, All-nil, Appends, Session, lines_of, ends_in, Lacks, Command, command_of, Content, nothing, content_after_command, Replies, commands_of, has_bad, with_command, bad_or, Answers, AnswersFirst, content_of, HasWords, content_after_commands, with_line, Forwards, IsAt}
+use Rattle.range_map_cli.proofs.Words.{◌≡◌, ◌==◌, false, ℕ, ◌+◌, ◌-◌, ◌^◌, ℤ, List, [], ◌∷◌, ◌++◌, length, take, refl, sym, ap, ◌∙◌, subst, arith, append_assoc, append-nil, Option, Some, min, length-append, fun_ext, take_at, All-append, All-nil, Appends, Session, lines_of, ends_in, Lacks, Command, command_of, Content, empty_content, content_after_command, Replies, commands_of, has_bad, with_command, bad_or, Answers, AnswersFirst, content_of, HasWords, content_after_commands, with_line, Forwards, IsAt}
 use Rattle.range_map_cli.proofs.Sessions.Kept.{take_again}
 use Rattle.range_map_cli.proofs.Sessions.Lengths.{command_of-take}
 use Rattle.range_map_cli.proofs.Sessions.Cuts.{lines_end, lines_last, ends_in-Lacks, ends_in-append}
@@ -56,22 +56,22 @@ module _ (held now : Option (List ℕ)) (text : List ℕ) (session : Session) (r
   -- a good line, with its reply
   module _ (command : Command) (reply : List ℕ) (is : command_of session.line ≡ Some command)
       (replies : HasWords (content_of session.map.entries) → Replies (content_of session.map.entries) command reply) where
-    same_content : content_of session.map.entries ≡ content_after_commands at.commands nothing
+    same_content : content_of session.map.entries ≡ content_after_commands at.commands empty_content
     same_content = fun_ext at.stored
 
     pub asked_next : commands_of (lines_of text) ≡ (at.commands ++ command ∷ []) ++ commands_of (lines_of rest)
     asked_next = asked_here ∙ ap (λ o. at.commands ++ with_command o (commands_of (lines_of rest))) is ∙ sym (append_assoc at.commands (command ∷ []) (commands_of (lines_of rest)))
 
-    pub answered_next : Answers nothing (at.commands ++ command ∷ []) (at.answers ++ reply)
+    pub answered_next : Answers empty_content (at.commands ++ command ∷ []) (at.answers ++ reply)
     answered_next =
         let words : HasWords (content_of session.map.entries) = subst HasWords (sym same_content) at.words in
-        Answers-push nothing at.commands command at.answers reply at.answered (subst (λ c. Replies c command reply) same_content (replies words))
+        Answers-push empty_content at.commands command at.answers reply at.answered (subst (λ c. Replies c command reply) same_content (replies words))
 
     -- the line is answered
     pub next_line : (later : Option (List ℕ)) (new : Session) → ((key : ℤ) → content_of new.map.entries key ≡ content_after_command command (content_of session.map.entries) key)
         → Forwards now later (session.waiting.items ++ reply) new.waiting.items → new.number ≡ min (session.number + 1) (2 ^ 64 - 1) → new.line ≡ [] → IsAt held later text new rest lines
     next_line later new stored put number line =
-        let content : content_after_commands (at.commands ++ command ∷ []) nothing ≡ content_after_command command (content_after_commands at.commands nothing) = after_all-push nothing at.commands command in
+        let content : content_after_commands (at.commands ++ command ∷ []) empty_content ≡ content_after_command command (content_after_commands at.commands empty_content) = after_all-push empty_content at.commands command in
         record {
           commands = at.commands ++ command ∷ [];
           partial = [];
@@ -81,7 +81,7 @@ module _ (held now : Option (List ℕ)) (text : List ℕ) (session : Session) (r
           answered = answered_next;
           forwards = Forwards-trans held now later (at.answers ++ reply) (session.waiting.items ++ reply) new.waiting.items (Forwards-push held now at.answers session.waiting.items reply at.forwards) put;
           stored = λ key. stored key ∙ ap (λ c. content_after_command command c key) same_content ∙ sym (ap (λ (c : Content). c key) content);
-          words = subst HasWords (sym content) (HasWords-after session.line command (content_after_commands at.commands nothing) is at.words);
+          words = subst HasWords (sym content) (HasWords-after session.line command (content_after_commands at.commands empty_content) is at.words);
           counted = omega (arith, at.counted, length-append at.commands (command ∷ []), ends_in-append (10 ∷ []) rest);
           number = number ∙ one_more (length at.commands) _ _ at.number (length-append at.commands (command ∷ []));
           no_end = λ k d h. absurd (omega arith);
@@ -137,8 +137,8 @@ last_line held now text session lines at some =
     last (b ∷ bs) h e = ap lines_of (append-nil (b ∷ bs)) ∙ lines_last b bs h ∙ sym (lines_end (b ∷ bs) [] h)
 
 -- answers to the first of a text's commands
-pub first_answers : (text : List ℕ) (commands later : List Command) (answers : List ℕ) → commands_of (lines_of text) ≡ commands ++ later → Answers nothing commands answers → AnswersFirst (length commands) text answers
-first_answers text commands later answers asked h = subst (λ cs. Answers nothing cs answers) (sym (ap (take (length commands)) asked ∙ take_at commands later (length commands) refl)) h
+pub first_answers : (text : List ℕ) (commands later : List Command) (answers : List ℕ) → commands_of (lines_of text) ≡ commands ++ later → Answers empty_content commands answers → AnswersFirst (length commands) text answers
+first_answers text commands later answers command_of_request h = subst (λ cs. Answers empty_content cs answers) (sym (ap (take (length commands)) command_of_request ∙ take_at commands later (length commands) refl)) h
 
 -- the answers so far are those to the first lines
 pub answers_first : (held now : Option (List ℕ)) (text : List ℕ) (session : Session) (rest : List ℕ) (lines : ℕ) → (at : IsAt held now text session rest lines) → AnswersFirst (length at.commands) text at.answers

@@ -1,5 +1,5 @@
 -- What paints and fills in any order leave.
-use Rattle.range_map_cli.proofs.Words.{option_or, ◌≡◌, ◌+◌, ◌-◌, ◌*◌, ◌≤◌, ℤ, Bool, cond, List, [], ◌∷◌, length, Option, Some, None, ◌∙◌, sym, ap, subst, arith, All, IsEquivalence, All-head, All-tail, or_assoc, or_none, keyed, Entry, entry, at, holds, SameOption, filled, last_at, painted, painted_in_order, canonical, painted_one, few_painted, fills_of, painted_and_filled, paints_of, ranges_in, IsPaintOrFill, PaintsAloneAreInOrder, StepsPaintAndFill, IsSteppedAll, Step, Paint, Fill, Insert, Remove, PopFirst, PopLast, Clear, KeepBelow, KeepFrom, Or, And, Minus, Xor, AndSet, MinusSet, ComplementWith}
+use Rattle.range_map_cli.proofs.Words.{option_or, ◌≡◌, ◌+◌, ◌-◌, ◌*◌, ◌≤◌, ℤ, Bool, cond, List, [], ◌∷◌, length, Option, Some, None, ◌∙◌, sym, ap, subst, arith, All, IsEquivalence, All-head, All-tail, or_assoc, or_none, keyed_count, Entry, entry, at, holds, SameOption, filled, last_at, painted, painted_in_order, canonical, painted_one, few_painted, fills_of, painted_and_filled, paints_of, ranges_in, IsPaintOrFill, PaintsAloneAreInOrder, StepsPaintAndFill, IsSteppedAll, Step, Paint, Fill, Insert, Remove, PopFirst, PopLast, Clear, KeepBelow, KeepFrom, Or, And, Minus, Xor, AndSet, MinusSet, ComplementWith}
 
 module _ {V : Type 0} where
   -- one entry is painted first
@@ -55,7 +55,7 @@ module _ {V : Type 0} where
       last_under fills (f ∷ paints) k ∙ or_assoc (last_at paints k) (cond (holds f k) (Some f.value) None) (at fills k)
       ∙ ap (option_or (last_at paints k)) (sym (painted_one (holds f k) f.value (at fills k)))
 
-  keyed_under : (fills paints : List (Entry V)) → keyed (under fills paints) ≡ keyed paints + keyed fills
+  keyed_under : (fills paints : List (Entry V)) → keyed_count (under fills paints) ≡ keyed_count paints + keyed_count fills
   keyed_under [] paints = omega arith
   keyed_under (f ∷ fills) paints = omega (arith, keyed_under fills (f ∷ paints))
 

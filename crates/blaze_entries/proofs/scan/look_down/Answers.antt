@@ -19,8 +19,8 @@ loop-next-init g c =
       value = value_begins test (rank c.args.lo) h low high c.requires.order es c.requires.ranges;
     }
 
-pub length_outside-left-requires : goal.length_outside-left-requires
-length_outside-left-requires g c =
+pub length_outside-keys_outside-requires : goal.length_outside-keys_outside-requires
+length_outside-keys_outside-requires g c =
     let seen = c.in-Some.ensures.found in
     has_room c.loop-next.invariant.walk g.T.Integer.low c.requires.order c.requires.ranges _ seen.0 seen.2 seen.1.found c.requires.len
 
@@ -36,7 +36,7 @@ returns-then-is_below g c =
     let seen = c.in-Some.ensures.found in
     let last = sym c.is_below.ensures ∙ c.if-is_below.true in
     let value = c.seen_value-held.ensures ∙ ap (seen_value (g.T.Integer.rank c.args.lo) (option_copied c.loop-next.held)) (found_entry seen.1) in
-    let all = stops i.walk low c.requires.order c.requires.ranges _ seen.0 seen.2 seen.1.found c.see.ensures.seen (pos (g.T.SafeLen.SafeLength.number c.length_outside-left.result)) c.length_outside-left.ensures last in
+    let all = stops i.walk low c.requires.order c.requires.ranges _ seen.0 seen.2 seen.1.found c.see.ensures.seen (pos (g.T.SafeLen.SafeLength.number c.length_outside-keys_outside.result)) c.length_outside-keys_outside.ensures last in
     record {
       plan = all.seen;
       len = all.kept;
@@ -51,7 +51,7 @@ loop-next-preserved g c =
     record {
       seen = seen.0 ∷ c.loop-next.invariant.seen;
       walk =
-          goes_on c.loop-next.invariant.walk g.T.Integer.low c.requires.order c.requires.ranges _ seen.0 seen.2 seen.1.found c.see.ensures.seen (pos (g.T.SafeLen.SafeLength.number c.length_outside-left.result)) c.length_outside-left.ensures c.in-Some.ensures.looked (sym c.is_below.ensures ∙ c.if-is_below.false);
+          goes_on c.loop-next.invariant.walk g.T.Integer.low c.requires.order c.requires.ranges _ seen.0 seen.2 seen.1.found c.see.ensures.seen (pos (g.T.SafeLen.SafeLength.number c.length_outside-keys_outside.result)) c.length_outside-keys_outside.ensures c.in-Some.ensures.looked (sym c.is_below.ensures ∙ c.if-is_below.false);
       value = value_goes_on c.loop-next.invariant.walk g.T.Integer.low c.requires.order c.requires.ranges _ seen.0 seen.2 seen.1.found c.loop-next.invariant.value
           (c.seen_value-held.ensures ∙ ap (seen_value (g.T.Integer.rank c.args.lo) (option_copied c.loop-next.held)) (found_entry seen.1));
     }

@@ -23,7 +23,7 @@ cut_held-requires-clause-held g c =
     let rank = g.T.Integer.rank in
     let k = rank c.args.key in
     let es = c.args.entries.now.entries in
-    subst (λ xs. IsRangeCloned rank g.V.Clone.is_clone (holder_of k xs) (Some c.in-Some.held)) (sym (ap (λ (s : CountedEntries g.row.V.Denot). s.entries) c.holder.ensures.looked))
+    subst (λ xs. IsRangeCloned rank g.V.Clone.is_clone (holder_of k xs) (Some c.in-Some.held)) (sym (ap (λ (s : CountedEntries g.row.V.Denot). s.entries) c.entry_containing.ensures.looked))
     (subst (IsRangeCloned rank g.V.Clone.is_clone (holder_of k es)) c.in-Some.is c.in_ok-found.ensures.held)
 
 pub returns-in-None-clause-cut : goal.returns-in-None-clause-cut
@@ -36,7 +36,7 @@ returns-in-None-clause-cut g c =
     let low = g.T.Integer.low in
     let high = g.T.Integer.high in
     let none = no_key eq laws k low high es c.in_hand.ensures c.requires.table.canonical (subst (IsRangeCloned rank g.V.Clone.is_clone (holder_of k es)) c.in-None.is c.in_ok-found.ensures.held) in
-    subst (λ xs. IsKeyCut eq low high (g.T.SafeLen.SafeLength.number c.args.len) k None es xs) (sym (ap (λ (s : CountedEntries g.row.V.Denot). s.entries) c.holder.ensures.looked))
+    subst (λ xs. IsKeyCut eq low high (g.T.SafeLen.SafeLength.number c.args.len) k None es xs) (sym (ap (λ (s : CountedEntries g.row.V.Denot). s.entries) c.entry_containing.ensures.looked))
     (record { table = c.requires.table; content = key_absent eq laws k es c.requires.table.canonical none; value = same_none eq _ none })
 
 pub returns-in_err-value-in-Some-clause-none : goal.returns-in_err-value-in-Some-clause-none
@@ -50,4 +50,4 @@ pub returns-in_ok-value-in-Some-clause-cut : goal.returns-in_ok-value-in-Some-cl
 returns-in_ok-value-in-Some-clause-cut g c =
     let number = g.T.SafeLen.SafeLength.number c.in_ok-value-in-Some.rest in
     subst (λ (s : CountedEntries g.row.V.Denot). IsKeyCut g.V.PartialEq.eq g.T.Integer.low g.T.Integer.high number (g.T.Integer.rank c.args.key) (Some c.in_ok-value-in-Some.value) s.entries c.cut_held.new.entries.entries)
-    c.holder.ensures.looked c.in_ok-value-in-Some.ensures.cut
+    c.entry_containing.ensures.looked c.in_ok-value-in-Some.ensures.cut

@@ -11,7 +11,7 @@ returns-in_err-first-clause-refused g c =
 pub returns-in_err-value-in-Some-clause-refused : goal.returns-in_err-value-in-Some-clause-refused
 returns-in_err-value-in-Some-clause-refused g c =
     if_err c.from_residual-in_err-value-in-Some.result (first_among g.V.PartialEq.eq g.met.V.Eq.laws g.T.Integer.low g.T.Integer.high c.args.entries.now.entries c.in_hand.ensures c.requires.table.canonical
-    (subst (λ (s : CountedEntries g.row.V.Denot). IsSomeAnd (slice_get s.entries 0) (λ e. e.lo <ℤ e.hi)) c.first_held.ensures.looked c.in_err-value-in-Some.ensures.refused))
+    (subst (λ (s : CountedEntries g.row.V.Denot). IsSomeAnd (slice_get s.entries 0) (λ e. e.lo <ℤ e.hi)) c.first_range_cloned.ensures.looked c.in_err-value-in-Some.ensures.refused))
 
 pub minus-rest-requires : goal.minus-rest-requires
 minus-rest-requires g c = record {
@@ -39,5 +39,5 @@ returns-clause-cut g c =
       first = first_key rank g.V.Clone.is_clone c.in-Some.held es looked;
       cut = key_cut eq g.met.V.Eq.laws _ low high es c.in_hand.ensures canonical (first_has eq g.met.V.Eq.laws low high es c.in_hand.ensures canonical rank g.V.Clone.is_clone c.in-Some.held looked) _ _ _ _ c.requires.table
           (omega (arith, ints, c.minus-rest.ensures.difference, c.one.ensures))
-          (subst (λ (s : CountedEntries g.row.V.Denot). IsKeyTaken eq (rank c.in-Some.held.start) (Some c.in_ok-value-in-Some.value) s.entries c.cut_front.new.entries.entries) c.first_held.ensures.looked c.in_ok-value-in-Some.ensures.cut);
+          (subst (λ (s : CountedEntries g.row.V.Denot). IsKeyTaken eq (rank c.in-Some.held.start) (Some c.in_ok-value-in-Some.value) s.entries c.cut_front.new.entries.entries) c.first_range_cloned.ensures.looked c.in_ok-value-in-Some.ensures.cut);
     }

@@ -1,4 +1,4 @@
-use Rattle.blaze_table.proofs.Words.{if_err, refl, ap, sym, subst, IsSome, IsManyCloned, CountedEntries, IsCutOf}
+use Rattle.blaze_table.proofs.Words.{if_err, refl, ap, sym, subst, IsSome, IsManyCloned, CountedEntries, IsListWithoutKey}
 use Rattle.blaze_table.proofs.Cuts.CutEdits.{has_key, among_others, found, value_removed, whole_cut}
 use Rattle.blaze_table.proofs.cut.cut_key.Goals as goal
 
@@ -34,6 +34,6 @@ returns-in-None-clause-cut g c =
     let h = has_key eq laws k low high es c.in_hand.ensures c.requires.canonical _ c.requires.held in
     let one = subst (IsManyCloned g.V.Clone.is_clone h.of) c.in-None.is h.holds.1 in
     record {
-      cut = subst (IsCutOf eq k es) (sym (ap (λ (s : CountedEntries g.row.V.Denot). s.entries) c.remove.ensures.entries)) (whole_cut eq laws k low high es c.in_hand.ensures c.requires.canonical h.of h.last h.up one);
+      cut = subst (IsListWithoutKey eq k es) (sym (ap (λ (s : CountedEntries g.row.V.Denot). s.entries) c.remove.ensures.entries)) (whole_cut eq laws k low high es c.in_hand.ensures c.requires.canonical h.of h.last h.up one);
       value = value_removed eq laws k low high es c.in_hand.ensures c.requires.canonical h.of h.last h.up one c.remove.result c.remove.ensures.value;
     }

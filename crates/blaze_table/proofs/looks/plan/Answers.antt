@@ -18,8 +18,8 @@ loop-last-init g c =
       walk = begins (λ (w : g.row.V.Denot). g.V.PartialEq.eq w c.args.value.now) (rank c.args.lo) h low high c.requires.order es c.requires.ranges _ _ _ (below_next low high h (rank c.next_or_last.result) es c.in_hand.ensures c.next_or_last.ensures) c.new-plan.ensures looks;
     }
 
-pub length_outside-left-requires : goal.length_outside-left-requires
-length_outside-left-requires g c =
+pub length_outside-keys_outside-requires : goal.length_outside-keys_outside-requires
+length_outside-keys_outside-requires g c =
     let rank = g.T.Integer.rank in
     let test = λ (w : g.row.V.Denot). g.V.PartialEq.eq w c.args.value.now in
     let i = c.loop-last.invariant in
@@ -40,7 +40,7 @@ returns-then-is_below g c =
     let test = λ (w : g.row.V.Denot). g.V.PartialEq.eq w c.args.value.now in
     let i = c.loop-last.invariant in
     let d = down_to test g.T.Integer.low g.T.Integer.high c.args.entries.now.entries c.in_hand.ensures i.key (shown_found rank c.in-Some.found) (sym (ap (option_map (shown_found rank)) c.in-Some.is) ∙ i.found) in
-    let all = stops i.walk g.T.Integer.low c.requires.order c.requires.ranges _ d.found d.down d.is c.see.ensures.seen (pos (g.T.SafeLen.SafeLength.number c.length_outside-left.result)) c.length_outside-left.ensures (sym c.is_below.ensures ∙ c.if-is_below.true) in
+    let all = stops i.walk g.T.Integer.low c.requires.order c.requires.ranges _ d.found d.down d.is c.see.ensures.seen (pos (g.T.SafeLen.SafeLength.number c.length_outside-keys_outside.result)) c.length_outside-keys_outside.ensures (sym c.is_below.ensures ∙ c.if-is_below.true) in
     record {
       plan = all.seen;
       len = all.kept;
@@ -70,7 +70,7 @@ loop-last-preserved g c =
       seen = d.found ∷ i.seen;
       same = c.found_below-last.ensures.looked ∙ ap (λ (s : CountedEntries g.row.V.Denot). record s { looks = c.loop-last.entries.looks + 1 }) i.same ∙ ap (λ (n : ℕ). record c.args.entries.now { looks = n }) (sym looks);
       found = c.found_below-last.ensures.found ∙ ap (λ (xs : List (Entry g.row.V.Denot)). option_map (found_in test) (last_below (rank c.in-Some.found.start) xs)) same;
-      walk = goes_on i.walk g.T.Integer.low c.requires.order c.requires.ranges _ d.found d.down d.is c.see.ensures.seen (pos (g.T.SafeLen.SafeLength.number c.length_outside-left.result)) c.length_outside-left.ensures looks (sym c.is_below.ensures ∙ c.if-is_below.false);
+      walk = goes_on i.walk g.T.Integer.low c.requires.order c.requires.ranges _ d.found d.down d.is c.see.ensures.seen (pos (g.T.SafeLen.SafeLength.number c.length_outside-keys_outside.result)) c.length_outside-keys_outside.ensures looks (sym c.is_below.ensures ∙ c.if-is_below.false);
     }
 
 pub returns : goal.returns

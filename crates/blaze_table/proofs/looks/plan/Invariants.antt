@@ -9,7 +9,7 @@ invariant-loop-last g l = record {
   seen : List (Entry g.row.V.Denot);
   same : l.entries ≡ record l.fn.entries { looks = l.entries.looks };
   found : option_map (shown_found g.T.Integer.rank) l.last ≡ option_map (found_in (λ w. g.V.PartialEq.eq w l.value)) (last_below key l.fn.entries.entries);
-  walk : IsWalkUnderway (λ w. g.V.PartialEq.eq w l.value) (g.T.Integer.rank l.lo) (g.T.Integer.rank l.hi) (pos (g.T.SafeLen.SafeLength.number l.fn.len)) (l.fn.entries.looks + 1) g.T.Integer.high l.fn.entries.entries (below key l.fn.entries.entries) seen (shown_plan g.T.Integer.rank l.plan) (pos (g.T.SafeLen.SafeLength.number l.left)) l.entries.looks;
+  walk : IsWalkUnderway (λ w. g.V.PartialEq.eq w l.value) (g.T.Integer.rank l.lo) (g.T.Integer.rank l.hi) (pos (g.T.SafeLen.SafeLength.number l.fn.len)) (l.fn.entries.looks + 1) g.T.Integer.high l.fn.entries.entries (below key l.fn.entries.entries) seen (shown_plan g.T.Integer.rank l.plan) (pos (g.T.SafeLen.SafeLength.number l.keys_outside)) l.entries.looks;
 }
 
 abbrev pub decreases-loop-last : goal.decreases-loop-last

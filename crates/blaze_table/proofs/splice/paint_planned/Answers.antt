@@ -43,14 +43,14 @@ returns-in_ok-extend-in-Some-clause-inside g c = λ i.
     absurd (not_reached g.V.PartialEq.eq c.args.value (rank c.args.lo) (rank c.args.hi) c.requires.order g.T.Integer.low g.T.Integer.high c.args.entries.now.entries c.in_hand.ensures c.requires.table.canonical (shown_plan rank c.args.walk.plan) c.requires.walk.plan
     (sym c.is_inside.ensures ∙ c.if-is_inside.false) i)
 
-pub returns-in_err-put_at-in-None-clause-inside : goal.returns-in_err-put_at-in-None-clause-inside
-returns-in_err-put_at-in-None-clause-inside g c = λ i.
+pub returns-in_err-set_entry-in-None-clause-inside : goal.returns-in_err-set_entry-in-None-clause-inside
+returns-in_err-set_entry-in-None-clause-inside g c = λ i.
     let rank = g.T.Integer.rank in
     absurd (not_reached g.V.PartialEq.eq c.args.value (rank c.args.lo) (rank c.args.hi) c.requires.order g.T.Integer.low g.T.Integer.high c.args.entries.now.entries c.in_hand.ensures c.requires.table.canonical (shown_plan rank c.args.walk.plan) c.requires.walk.plan
     (sym c.is_inside.ensures ∙ c.if-is_inside.false) i)
 
-pub returns-in_ok-put_at-in-None-clause-inside : goal.returns-in_ok-put_at-in-None-clause-inside
-returns-in_ok-put_at-in-None-clause-inside g c = λ i.
+pub returns-in_ok-set_entry-in-None-clause-inside : goal.returns-in_ok-set_entry-in-None-clause-inside
+returns-in_ok-set_entry-in-None-clause-inside g c = λ i.
     let rank = g.T.Integer.rank in
     absurd (not_reached g.V.PartialEq.eq c.args.value (rank c.args.lo) (rank c.args.hi) c.requires.order g.T.Integer.low g.T.Integer.high c.args.entries.now.entries c.in_hand.ensures c.requires.table.canonical (shown_plan rank c.args.walk.plan) c.requires.walk.plan
     (sym c.is_inside.ensures ∙ c.if-is_inside.false) i)
@@ -60,8 +60,8 @@ plus-painted-requires g c = record {
   fits =
       let rank = g.T.Integer.rank in
       let bound = keys_painted g.V.PartialEq.eq g.met.V.Eq.laws g.T.Integer.low g.T.Integer.high (rank c.args.lo) (rank c.args.hi) c.args.entries.now.entries c.requires.order c.in_hand-2.ensures.from c.in_hand-3.ensures.to c.requires.table.canonical c.requires.table.are_keys in
-      let outside = c.requires.walk.outside in
-      omega (arith, ints, bound, g.met.T.Integer.has_room, outside, c.length.ensures);
+      let keys_outside = c.requires.walk.keys_outside in
+      omega (arith, ints, bound, g.met.T.Integer.has_room, keys_outside, c.length.ensures);
 }
 
 pub extend-requires-clause-place : goal.extend-requires-clause-place
@@ -76,10 +76,10 @@ extend-requires-clause-place g c =
     (joined_within eq test lo hi c.requires.order g.T.Integer.low g.T.Integer.high es c.in_hand.ensures c.requires.table.canonical (rank c.in-Some.first) (shown_plan rank c.args.walk.plan) c.in-Some.ensures c.requires.walk.plan)
 
 pub extend-requires-clause-joined : goal.extend-requires-clause-joined
-extend-requires-clause-joined g c = let rank = g.T.Integer.rank in joined_left rank (rank c.args.lo) (rank c.in-Some.first) c.args.walk.plan.left c.in-Some.ensures
+extend-requires-clause-joined g c = let rank = g.T.Integer.rank in joined_left rank (rank c.args.lo) (rank c.in-Some.first) c.args.walk.plan.predecessor c.in-Some.ensures
 
-pub put_at-requires-clause-place : goal.put_at-requires-clause-place
-put_at-requires-clause-place g c =
+pub set_entry-requires-clause-place : goal.set_entry-requires-clause-place
+set_entry-requires-clause-place g c =
     let rank = g.T.Integer.rank in
     let eq = g.V.PartialEq.eq in
     let test = λ (w : g.row.V.Denot). eq w c.args.value in
@@ -88,24 +88,24 @@ put_at-requires-clause-place g c =
     let es = c.args.entries.now.entries in
     let up = end_up eq test hi es c.requires.table.canonical (rank c.args.walk.plan.end) c.requires.walk.plan.end in
     place_is eq test lo hi c.requires.order g.T.Integer.low g.T.Integer.high es c.in_hand.ensures c.requires.table.canonical rank c.args.walk.plan c.args.walk.above c.requires.walk.plan
-    (like_above eq test lo hi (rank c.args.walk.plan.end) c.requires.order up c.args.walk.above es c.requires.walk.above (c.in-None.ensures ∙ ap (joined_start lo) c.requires.walk.plan.left))
+    (like_above eq test lo hi (rank c.args.walk.plan.end) c.requires.order up c.args.walk.above es c.requires.walk.above (c.in-None.ensures ∙ ap (joined_start lo) c.requires.walk.plan.predecessor))
 
 pub returns-in_ok-extend-in-Some-clause-painted : goal.returns-in_ok-extend-in-Some-clause-painted
 returns-in_ok-extend-in-Some-clause-painted g c =
     let rank = g.T.Integer.rank in
-    let start = c.in-Some.ensures ∙ ap (joined_start (rank c.args.lo)) c.requires.walk.plan.left in
+    let start = c.in-Some.ensures ∙ ap (joined_start (rank c.args.lo)) c.requires.walk.plan.predecessor in
     let made = c.in_ok-extend-in-Some.ensures.extended in
     table_painted g.V.PartialEq.eq g.met.V.Eq.laws g.T.Integer.low g.T.Integer.high _ (entry (rank c.args.lo) (rank c.args.hi) c.args.value) _ c.extend.new.entries.entries c.requires.order c.in_hand-2.ensures.from c.in_hand-3.ensures.to c.requires.table.canonical c.requires.table.are_keys
-    (all_keys _ _ _ _ _ _ c.requires.walk.outside c.length.ensures c.plus-painted.ensures)
+    (all_keys _ _ _ _ _ _ c.requires.walk.keys_outside c.length.ensures c.plus-painted.ensures)
     (paint_extends g.V.PartialEq.eq g.met.V.Eq.laws (rank c.args.lo) (rank c.args.hi) c.args.value c.requires.order g.T.Integer.low g.T.Integer.high c.args.entries.now.entries c.in_hand.ensures c.requires.table.canonical
     (rank c.args.walk.plan.end) c.requires.walk.plan.end made.above made.like (rank c.in-Some.first) c.extend.new.entries.entries start made.of made.found made.put)
 
-pub returns-in_ok-put_at-in-None-clause-painted : goal.returns-in_ok-put_at-in-None-clause-painted
-returns-in_ok-put_at-in-None-clause-painted g c =
+pub returns-in_ok-set_entry-in-None-clause-painted : goal.returns-in_ok-set_entry-in-None-clause-painted
+returns-in_ok-set_entry-in-None-clause-painted g c =
     let rank = g.T.Integer.rank in
-    let start = c.in-None.ensures ∙ ap (joined_start (rank c.args.lo)) c.requires.walk.plan.left in
-    let made = c.in_ok-put_at-in-None.ensures.put in
-    table_painted g.V.PartialEq.eq g.met.V.Eq.laws g.T.Integer.low g.T.Integer.high _ (entry (rank c.args.lo) (rank c.args.hi) c.args.value) _ c.put_at.new.entries.entries c.requires.order c.in_hand-2.ensures.from c.in_hand-3.ensures.to c.requires.table.canonical c.requires.table.are_keys
-    (all_keys _ _ _ _ _ _ c.requires.walk.outside c.length.ensures c.plus-painted.ensures)
+    let start = c.in-None.ensures ∙ ap (joined_start (rank c.args.lo)) c.requires.walk.plan.predecessor in
+    let made = c.in_ok-set_entry-in-None.ensures.put in
+    table_painted g.V.PartialEq.eq g.met.V.Eq.laws g.T.Integer.low g.T.Integer.high _ (entry (rank c.args.lo) (rank c.args.hi) c.args.value) _ c.set_entry.new.entries.entries c.requires.order c.in_hand-2.ensures.from c.in_hand-3.ensures.to c.requires.table.canonical c.requires.table.are_keys
+    (all_keys _ _ _ _ _ _ c.requires.walk.keys_outside c.length.ensures c.plus-painted.ensures)
     (paint_puts g.V.PartialEq.eq g.met.V.Eq.laws (rank c.args.lo) (rank c.args.hi) c.args.value c.requires.order g.T.Integer.low g.T.Integer.high c.args.entries.now.entries c.in_hand.ensures c.requires.table.canonical
-    (rank c.args.walk.plan.end) c.requires.walk.plan.end made.above made.like c.put_at.new.entries.entries start made.put)
+    (rank c.args.walk.plan.end) c.requires.walk.plan.end made.above made.like c.set_entry.new.entries.entries start made.put)

@@ -3,7 +3,7 @@ ghost use Rattle.std.specs.Prelude.{◌≡◌, ◌⊎◌, ◌↔◌, pos, ◌+�
 ghost use Rattle.std.specs.Prelude.{IsTrue, MatchOption};
 ghost use Rattle.blaze_table.specs.Canonical.{AreKeys};
 ghost use Rattle.blaze_table.specs.Entries.{at};
-ghost use Rattle.blaze_table.specs.Filled.{IsHeldFrom};
+ghost use Rattle.blaze_table.specs.Filled.{IsMappedFrom};
 ghost use Rattle.blaze_table.specs.Filling.{IsGapEnd, IsNextGap, IsOrdered};
 
 use crate::search::entries_ending_from;
@@ -70,7 +70,7 @@ pub fn first_gap<T: Integer, V: Eq>(
     requires ordered { IsOrdered entries.now.counted.entries }
     requires keys { AreKeys T.low T.high entries.now.counted.entries }
     ensures { MatchOption result
-        (IsHeldFrom (at entries.now.counted.entries) (T.rank start) (T.rank end))
+        (IsMappedFrom (at entries.now.counted.entries) (T.rank start) (T.rank end))
         (λ gap. IsNextGap V.eq (at entries.now.counted.entries) value.now (T.rank start) (T.rank end)
         (T.rank gap.start) (T.rank gap.end) gap.equal_below gap.equal_above) }
 {
@@ -106,7 +106,7 @@ pub fn gap_above<T: Integer, V: Eq>(
     requires ordered { IsOrdered entries.now.counted.entries }
     requires keys { AreKeys T.low T.high entries.now.counted.entries }
     ensures { MatchOption result
-        (IsHeldFrom (at entries.now.counted.entries) (T.rank key +ℤ pos 1) (T.rank end))
+        (IsMappedFrom (at entries.now.counted.entries) (T.rank key +ℤ pos 1) (T.rank end))
         (λ gap. IsNextGap V.eq (at entries.now.counted.entries) value.now (T.rank key +ℤ pos 1) (T.rank end)
         (T.rank gap.start) (T.rank gap.end) gap.equal_below gap.equal_above) }
 {

@@ -32,10 +32,10 @@ fn join<T: Integer, V: Eq + Drop>(entries: &mut Counted<T, V>, key: T)
 
 /// Joins the entries at all joints with the entries before them, which makes the list canonical. It allocates nothing.
 /// O(j log n) with n entries and j joints.
-pub fn join_all<T: Integer, V: Eq + Drop>(entries: &mut Counted<T, V>, joints: Vec<T>)
+pub fn join_all<T: Integer, V: Eq + Drop>(entries: &mut Counted<T, V>, join_keys: Vec<T>)
     requires ordered { IsOrdered entries.old.entries }
     requires keys { AreKeys T.low T.high entries.old.entries }
-    requires joined { IsJoinedBut V.eq (map T.rank joints.items) entries.old.entries }
+    requires joined { IsJoinedBut V.eq (map T.rank join_keys.items) entries.old.entries }
     ensures canonical { IsCanonical V.eq entries.new.entries }
     ensures keys { AreKeys T.low T.high entries.new.entries }
     ensures count { keys_in entries.new.entries ≡ keys_in entries.old.entries }
@@ -43,8 +43,8 @@ pub fn join_all<T: Integer, V: Eq + Drop>(entries: &mut Counted<T, V>, joints: V
     ensures kept { AreStartsKept V.eq (at entries.old.entries) entries.old.entries entries.new.entries }
     ensures counted { IsCounted entries.old entries.new }
 {
-    let mut joints = joints;
-    while let Some(key) = joints.pop() {
+    let mut join_keys = join_keys;
+    while let Some(key) = join_keys.pop() {
         join(entries, key);
     }
 }

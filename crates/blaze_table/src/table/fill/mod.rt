@@ -3,7 +3,7 @@
 ghost use Rattle.std.specs.Prelude.{◌≡◌, ◌↔◌, ◌≤ℤ◌, false, Ok, IfOk, OnOk, OnErr, IsTrue};
 ghost use Rattle.blaze_table.specs.Count.{keys_in};
 ghost use Rattle.blaze_table.specs.Entries.{entry, at};
-ghost use Rattle.blaze_table.specs.Filled.{IsFilled, IsHeldFrom};
+ghost use Rattle.blaze_table.specs.Filled.{IsFilled, IsMappedFrom};
 ghost use Rattle.blaze_table.specs.Painted.{ClonesAreAlike};
 ghost use Rattle.blaze_table.specs.Work.{IsCounted};
 
@@ -15,7 +15,7 @@ use super::RangeTable;
 use blaze_int::{Integer, differ};
 use gap::first_gap;
 use join::join_all;
-use put::{Made, put_all, take_back};
+use put::{FillEdits, put_all, take_back};
 use std::alloc::AllocError;
 
 impl<T: Integer, V: Eq + Clone> RangeTable<T, V> {
@@ -35,7 +35,7 @@ impl<T: Integer, V: Eq + Clone> RangeTable<T, V> {
             self.old.entries self.new.entries) }
         ensures changed { IfOk result (λ changed. IsTrue changed ↔ (¬ (keys_in self.new.entries
             ≡ keys_in self.old.entries))) }
-        ensures held { IsHeldFrom (at self.old.entries) (T.rank lo) (T.rank hi)
+        ensures held { IsMappedFrom (at self.old.entries) (T.rank lo) (T.rank hi)
             → (result ≡ Ok false) × (self.new.entries ≡ self.old.entries) }
         ensures counted { IsCounted self.old self.new }
         ensures err { OnErr result (self.new.entries ≡ self.old.entries) }
@@ -44,10 +44,10 @@ impl<T: Integer, V: Eq + Clone> RangeTable<T, V> {
             return Ok(false);
         };
         let old_len = self.len;
-        let mut made = Made::new(self.entries.allocator());
+        let mut made = FillEdits::new(self.entries.allocator());
         match put_all(&mut self.entries, &mut made, old_len, hi, first, value) {
             Ok(new_len) => {
-                join_all(&mut self.entries.counted, made.joints);
+                join_all(&mut self.entries.counted, made.join_keys);
                 self.len = new_len;
                 Ok(differ(new_len, old_len))
             }

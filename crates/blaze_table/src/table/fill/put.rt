@@ -3,7 +3,7 @@ ghost use Rattle.std.specs.Prelude.{◌≡◌, [], ◌∷◌, ◌++◌, map, pos
 ghost use Rattle.blaze_entries.specs.Starts.{start_at, with_entry};
 ghost use Rattle.blaze_table.specs.Entries.{entry, at};
 ghost use Rattle.blaze_table.specs.Filling.{AreThere, GoesBack, IsFilledBut, IsGapFilled};
-ghost use Rattle.blaze_table.specs.Filling.{IsNextGap, IsNoted, IsNothingMade, IsOrderedTable, taken};
+ghost use Rattle.blaze_table.specs.Filling.{IsNextGap, IsNoted, HasNoEdits, IsOrderedTable, taken};
 ghost use Rattle.blaze_table.specs.Painted.{ClonesAreAlike};
 ghost use Rattle.blaze_table.specs.Table.{IsTable};
 ghost use Rattle.blaze_table.specs.Work.{IsCounted};
@@ -17,42 +17,42 @@ use std::alloc::{AllocError, Global};
 /// The inserts of a fill: the starts of its entries, and the joints. A joint is the start of an entry that must be
 /// joined with the previous one.
 #[derive(Drop)]
-pub struct Made<T> {
+pub struct FillEdits<T> {
     pub starts: Vec<T>,
-    pub joints: Vec<T>,
+    pub join_keys: Vec<T>,
 }
 
-impl<T> Made<T> {
+impl<T> FillEdits<T> {
     /// Returns the record of no inserts. It allocates nothing.
     pub fn new(alloc: Global) -> Self
-        ensures { IsNothingMade result.starts.items result.joints.items }
+        ensures { HasNoEdits result.starts.items result.join_keys.items }
     {
-        Made {
+        FillEdits {
             starts: Vec::new(alloc),
-            joints: Vec::new(alloc),
+            join_keys: Vec::new(alloc),
         }
     }
 }
 
 // Appends a key to the joints if `is_joint` is true.
-fn note<T: Integer>(joints: &mut Vec<T>, key: T, is_joint: bool) -> Result<(), AllocError>
-    ensures { OnOk result (IsNoted is_joint (T.rank key) (map T.rank joints.old.items)
-        (map T.rank joints.new.items)) }
+fn note<T: Integer>(join_keys: &mut Vec<T>, key: T, is_joint: bool) -> Result<(), AllocError>
+    ensures { OnOk result (IsNoted is_joint (T.rank key) (map T.rank join_keys.old.items)
+        (map T.rank join_keys.new.items)) }
 {
     if is_joint {
-        joints.push(key)?;
+        join_keys.push(key)?;
     }
     Ok(())
 }
 
 // Appends the key after `key` to the joints if `is_joint` is true.
-fn note_after<T: Integer>(joints: &mut Vec<T>, key: T, is_joint: bool) -> Result<(), AllocError>
+fn note_after<T: Integer>(join_keys: &mut Vec<T>, key: T, is_joint: bool) -> Result<(), AllocError>
     requires { IsTrue is_joint → T.rank key <ℤ T.high }
-    ensures { OnOk result (IsNoted is_joint (T.rank key +ℤ pos 1) (map T.rank joints.old.items)
-        (map T.rank joints.new.items)) }
+    ensures { OnOk result (IsNoted is_joint (T.rank key +ℤ pos 1) (map T.rank join_keys.old.items)
+        (map T.rank join_keys.new.items)) }
 {
     if is_joint {
-        joints.push(key.add_one())?;
+        join_keys.push(key.add_one())?;
     }
     Ok(())
 }
@@ -84,7 +84,7 @@ fn put<T: Integer, V: Drop>(
 // Inserts an entry for a gap and records its start and its joints.
 fn fill_gap<T: Integer, V: Drop>(
     entries: &mut Counted<T, V>,
-    made: &mut Made<T>,
+    made: &mut FillEdits<T>,
     gap: Gap<T>,
     value: V,
 ) -> Result<(), AllocError>
@@ -93,13 +93,13 @@ fn fill_gap<T: Integer, V: Drop>(
     ensures ok { OnOk result (IsGapFilled (T.rank gap.start) (T.rank gap.end) value
         gap.equal_below gap.equal_above entries.old.entries entries.new.entries
         (map T.rank made.old.starts.items) (map T.rank made.new.starts.items)
-        (map T.rank made.old.joints.items) (map T.rank made.new.joints.items)) }
+        (map T.rank made.old.join_keys.items) (map T.rank made.new.join_keys.items)) }
     ensures counted { IsCounted entries.old entries.new }
     ensures err { OnErr result (entries.new.entries ≡ entries.old.entries) }
     ensures err_starts { OnErr result (made.new.starts.items ≡ made.old.starts.items) }
 {
-    note(&mut made.joints, gap.start, gap.equal_below)?;
-    note_after(&mut made.joints, gap.end, gap.equal_above)?;
+    note(&mut made.join_keys, gap.start, gap.equal_below)?;
+    note_after(&mut made.join_keys, gap.end, gap.equal_above)?;
     put(entries, &mut made.starts, gap, value)?;
     Ok(())
 }
@@ -109,7 +109,7 @@ fn fill_gap<T: Integer, V: Drop>(
 /// to remove.
 pub fn put_all<T: Integer, V: Eq + Clone>(
     entries: &mut Entries<T, V>,
-    made: &mut Made<T>,
+    made: &mut FillEdits<T>,
     len: T::SafeLen,
     hi: T,
     first: Gap<T>,
@@ -119,10 +119,10 @@ pub fn put_all<T: Integer, V: Eq + Clone>(
     requires table { IsTable V.eq T.low T.high (T.SafeLen.number len) entries.old.counted.entries }
     requires first { IsNextGap V.eq (at entries.old.counted.entries) value (T.rank first.start) (T.rank hi)
         (T.rank first.start) (T.rank first.end) first.equal_below first.equal_above }
-    requires made { IsNothingMade made.old.starts.items made.old.joints.items }
+    requires made { HasNoEdits made.old.starts.items made.old.join_keys.items }
     ensures table { IfOk result (λ new. IsOrderedTable T.low T.high (T.SafeLen.number new) entries.new.counted.entries) }
     ensures filled { OnOk result (IsFilledBut V.eq (T.rank first.start) (T.rank hi) value
-        (map T.rank made.new.starts.items) (map T.rank made.new.joints.items)
+        (map T.rank made.new.starts.items) (map T.rank made.new.join_keys.items)
         entries.old.counted.entries entries.new.counted.entries) }
     ensures counted { IsCounted entries.old.counted entries.new.counted }
     ensures back { OnErr result (GoesBack (map T.rank made.new.starts.items)

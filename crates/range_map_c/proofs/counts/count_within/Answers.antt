@@ -3,7 +3,7 @@ use Rattle.std.specs.Cmp.{nat_eq_equiv}
 use Rattle.std.specs.Range.{range_inclusive_end}
 use Rattle.std.proofs.Common.{◌≡◌, ◌+◌, ◌<◌, ◌^◌, ◌∙◌, ℤ, pos, ◌+ℤ◌, ◌≤ℤ◌, sym, ap, rules, arith, w64, to_z, of_z}
 use Rattle.std.proofs.lemmas.Int.{ints}
-use Rattle.blaze_entries.specs.Overlap.{covered}
+use Rattle.blaze_entries.specs.Overlap.{covered_keys}
 use Rattle.blaze_table.specs.Ending.{overlapping}
 use Rattle.blaze_table.proofs.Canonical.Runs.{canonical}
 use Rattle.range_map_c.specs.Handle.{least_key, greatest_key}
@@ -21,7 +21,7 @@ loop-range-init c =
     let whole : c.overlapping-entries.result ≡ overlapping lo hi es =
     c.overlapping-entries.ensures.within (search rules) (search rules) ∙ ap (λ z. overlapping z (range_inclusive_end c.new.result) es) c.new.ensures.start
     ∙ ap (λ z. overlapping lo z es) c.new.ensures.end in
-    let all : covered lo hi c.overlapping-entries.result ≡ covered lo hi es = ap (covered lo hi) whole ∙ sym (covered_overlapping lo hi es) in
+    let all : covered_keys lo hi c.overlapping-entries.result ≡ covered_keys lo hi es = ap (covered_keys lo hi) whole ∙ sym (covered_overlapping lo hi es) in
     (tt, tt, omega (arith, ints))
 
 pub overflow_add-count : goal.overflow_add-count
@@ -29,9 +29,9 @@ overflow_add-count c =
     let es = c.args.map.now.entries in
     let lo : ℤ = to_z w64 (of_z w64 c.args.lo) in
     let hi : ℤ = to_z w64 (of_z w64 c.args.hi) in
-    let sum : pos c.loop-range.count +ℤ covered lo hi c.loop-range.entries ≡ covered lo hi es = c.loop-range.invariant.2 in
+    let sum : pos c.loop-range.count +ℤ covered_keys lo hi c.loop-range.entries ≡ covered_keys lo hi es = c.loop-range.invariant.2 in
     let left = covered_some lo hi c.loop-range.entries in
-    let most : covered lo hi es ≤ℤ pos (2 ^ 64) =
+    let most : covered_keys lo hi es ≤ℤ pos (2 ^ 64) =
     covered_fits nat_eq least_key greatest_key lo hi es (omega (arith, ints)) (canonical nat_eq nat_eq_equiv es c.in_hand.ensures.runs) c.in_hand.ensures.keys in
     let few = c.shared_keys-count.ensures.bound in
     let small : c.loop-range.count + c.shared_keys-count.result < 2 ^ 128 = omega (arith, ints) in

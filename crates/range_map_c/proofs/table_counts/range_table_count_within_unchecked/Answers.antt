@@ -1,6 +1,6 @@
 use Rattle.std.proofs.Common.{◌≡◌, ◌+◌, ◌*◌, ◌^◌, ◌%◌, ◌/◌, ◌<◌, ℤ, pos, ◌+ℤ◌, ◌<ℤ◌, length, slice_index_or, take, sym, ap, ◌∙◌, arith, w64, to_z, of_z}
 use Rattle.std.proofs.lemmas.Int.{ints}
-use Rattle.blaze_entries.specs.Overlap.{covered, shared}
+use Rattle.blaze_entries.specs.Overlap.{covered_keys, shared_count}
 use Rattle.range_map_c.specs.Tables.{rows}
 use Rattle.range_map_c.proofs.InOrder.{rows_apart}
 use Rattle.range_map_c.proofs.Covered.{counted_begun, counted_more, counted_done}
@@ -22,12 +22,12 @@ loop-row-preserved c =
     let end : to_z w64 (of_z w64 (slice_index_or c.args.hi.now c.loop-row.row (pos 0))) ≡ slice_index_or c.args.hi.now c.loop-row.row (pos 0) = omega (arith, ints) in
     let first : ℤ = to_z w64 (of_z w64 c.args.first) in
     let last : ℤ = to_z w64 (of_z w64 c.args.last) in
-    let keys : pos c.shared_keys-count.result ≡ shared first last (slice_index_or c.args.lo.now c.loop-row.row (pos 0)) (slice_index_or c.args.hi.now c.loop-row.row (pos 0)) =
-    c.shared_keys-count.ensures.keys ∙ ap (λ z. shared first last z (to_z w64 (of_z w64 (slice_index_or c.args.hi.now c.loop-row.row (pos 0))))) start
-    ∙ ap (λ z. shared first last (slice_index_or c.args.lo.now c.loop-row.row (pos 0)) z) end in
+    let keys : pos c.shared_keys-count.result ≡ shared_count first last (slice_index_or c.args.lo.now c.loop-row.row (pos 0)) (slice_index_or c.args.hi.now c.loop-row.row (pos 0)) =
+    c.shared_keys-count.ensures.keys ∙ ap (λ z. shared_count first last z (to_z w64 (of_z w64 (slice_index_or c.args.hi.now c.loop-row.row (pos 0))))) start
+    ∙ ap (λ z. shared_count first last (slice_index_or c.args.lo.now c.loop-row.row (pos 0)) z) end in
     let test : c.loop-row.row < length c.args.lo.now = c.loop-row-test.true in (
       ap (λ z. z +ℤ pos c.shared_keys-count.result) c.loop-row.invariant.0
-          ∙ ap (λ z. covered first last (take c.loop-row.row (rows c.args.lo.now c.args.hi.now c.args.value.now)) +ℤ z) keys
+          ∙ ap (λ z. covered_keys first last (take c.loop-row.row (rows c.args.lo.now c.args.hi.now c.args.value.now)) +ℤ z) keys
           ∙ sym (counted_more _ _ _ c.requires.his c.requires.values first last c.loop-row.row test),
       omega arith,
       omega arith,
@@ -46,7 +46,7 @@ returns c =
     record {
       count =
           ap (λ n. pos n) whole ∙ c.loop-row.invariant.0
-          ∙ ap (λ z. covered z (to_z w64 (of_z w64 c.args.last)) (take c.loop-row.row es)) first
-          ∙ ap (λ z. covered c.args.first z (take c.loop-row.row es)) last
+          ∙ ap (λ z. covered_keys z (to_z w64 (of_z w64 c.args.last)) (take c.loop-row.row es)) first
+          ∙ ap (λ z. covered_keys c.args.first z (take c.loop-row.row es)) last
           ∙ counted_done _ _ _ c.requires.his c.requires.values c.args.first c.args.last c.requires.ordered c.loop-row.row above;
     }

@@ -1,4 +1,4 @@
-use Rattle.range_map_multi.proofs.Words.{◌∙◌, length, map, ap, arith, is_some, list_any, length-map, shown_segment, shown_row, picked}
+use Rattle.range_map_multi.proofs.Words.{◌∙◌, length, map, ap, arith, is_some, list_any, length-map, shown_segment, shown_row, values_at_positions}
 use Rattle.range_map_multi.proofs.AnsweredRows.{asked_none, asked_all, asked_count, asked_some, asked_less, asked_takes, asked_more}
 use Rattle.range_map_multi.proofs.Pickings.{picked_shown}
 use Rattle.range_map_multi.proofs.row_answers.full_answers.Goals as goal
@@ -26,7 +26,7 @@ f-answer-requires g c =
     let next = rw c.in-Some.is at c.in_ok-segment.ensures.some in
     let some = asked_some _ _ _ _ _ _ _ _ _ _ c.loop-out.cursors c.next_segment.new.lists c.loop-out.f _ segment c.loop-out.invariant next in
     asked_takes _ _ _ _ _ _ _ _ _ _ c.loop-out.cursors c.next_segment.new.lists c.loop-out.f _ segment c.loop-out.invariant next c.requires.callable some _
-    (picked_shown shown (λ v. v.items) c.args.lists.now segment.value _ (c.deref-in-Some.ensures.value ∙ c.in_ok-fill_row.ensures ∙ ap (picked _) c.deref.ensures.value))
+    (picked_shown shown (λ v. v.items) c.args.lists.now segment.value _ (c.deref-in-Some.ensures.value ∙ c.in_ok-fill_row.ensures ∙ ap (values_at_positions _) c.deref.ensures.value))
 
 pub loop-out-preserved : goal.loop-out-preserved
 loop-out-preserved g c =
@@ -37,7 +37,7 @@ loop-out-preserved g c =
     asked_more _ _ _ _ _ _ _ _ _ _ c.loop-out.cursors c.next_segment.new.lists c.loop-out.f _ segment c.loop-out.invariant next g.met.W.Eq.laws _ _ c.f-answer.result some
     (record {
       arguments = _;
-      shown = picked_shown shown (λ v. v.items) c.args.lists.now segment.value _ (c.deref-in-Some.ensures.value ∙ c.in_ok-fill_row.ensures ∙ ap (picked _) c.deref.ensures.value);
+      shown = picked_shown shown (λ v. v.items) c.args.lists.now segment.value _ (c.deref-in-Some.ensures.value ∙ c.in_ok-fill_row.ensures ∙ ap (values_at_positions _) c.deref.ensures.value);
       called = c.f-answer.ensures;
     })
     c.in_ok-push_joined.ensures.ok

@@ -1,4 +1,4 @@
-use Rattle.range_map_multi.proofs.Words.{◌∙◌, length, map, ap, arith, is_some, list_all, length-map, shown_segment, shown_full_row, picked}
+use Rattle.range_map_multi.proofs.Words.{◌∙◌, length, map, ap, arith, is_some, list_all, length-map, shown_segment, shown_full_row, values_at_positions}
 use Rattle.range_map_multi.proofs.AnsweredRows.{asked_none, asked_all, asked_count, asked_less, asked_takes, asked_more, asked_not}
 use Rattle.range_map_multi.proofs.Pickings.{picked_full, asked_full, asked_not_full, full_has_some, row_of_some}
 use Rattle.range_map_multi.proofs.row_answers.inner_answers_of_some.Goals as goal
@@ -29,7 +29,7 @@ loop-out-preserved-then-not-branch g c =
     let shown = g.S.Shows.shown in
     let segment = shown_segment g.T.Integer.rank c.in-Some.segment in
     let next = rw c.in-Some.is at c.in_ok-segment.ensures.some in
-    let found = c.in_ok-fill_row.ensures ∙ ap (picked _) c.deref.ensures.value in
+    let found = c.in_ok-fill_row.ensures ∙ ap (values_at_positions _) c.deref.ensures.value in
     let not_full = rw c.if-not-branch.true at c.in_ok-fill_full_row.ensures in
     asked_not _ _ _ _ _ _ _ _ _ _ c.loop-out.cursors c.next_segment.new.lists c.loop-out.f _ segment c.loop-out.invariant next (asked_not_full shown (λ v. v.items) c.args.lists.now segment.value c.deref-in-Some.result.now not_full (c.deref-in-Some.ensures.value ∙ found))
 
@@ -38,7 +38,7 @@ f-answer-requires g c =
     let shown = g.S.Shows.shown in
     let segment = shown_segment g.T.Integer.rank c.in-Some.segment in
     let next = rw c.in-Some.is at c.in_ok-segment.ensures.some in
-    let found = c.in_ok-fill_row.ensures ∙ ap (picked _) c.deref.ensures.value in
+    let found = c.in_ok-fill_row.ensures ∙ ap (values_at_positions _) c.deref.ensures.value in
     let full = rw c.if-not-branch.false at c.in_ok-fill_full_row.ensures in
     let row = c.deref-in-Some.ensures.value ∙ found in
     let asked = asked_full shown (λ v. v.items) c.args.lists.now segment.value c.fill_full_row.new.row.items c.deref-in-Some.result.now full row in
@@ -50,7 +50,7 @@ loop-out-preserved g c =
     let shown = g.S.Shows.shown in
     let segment = shown_segment g.T.Integer.rank c.in-Some.segment in
     let next = rw c.in-Some.is at c.in_ok-segment.ensures.some in
-    let found = c.in_ok-fill_row.ensures ∙ ap (picked _) c.deref.ensures.value in
+    let found = c.in_ok-fill_row.ensures ∙ ap (values_at_positions _) c.deref.ensures.value in
     let full = rw c.if-not-branch.false at c.in_ok-fill_full_row.ensures in
     let row = c.deref-in-Some.ensures.value ∙ found in
     let asked = asked_full shown (λ v. v.items) c.args.lists.now segment.value c.fill_full_row.new.row.items c.deref-in-Some.result.now full row in

@@ -12,8 +12,8 @@ returns-clause-found g c =
     subst (λ (s : CountedEntries g.row.V.Denot). RangesAscend g.T.Integer.low g.T.Integer.high s.entries → IsWalk g.V.Clone.is_clone test c.args.wanted l h (g.T.SafeLen.SafeLength.number c.args.len) s.entries (shown_plan rank c.look_down.result.0) (g.T.SafeLen.SafeLength.number c.look_down.result.1) c.in_ok-above.above c.in_ok-value.value) c.self.view_is
     (λ r. record {
       plan = c.look_down.ensures.plan;
-      outside = c.look_down.ensures.len;
-      above = cloned_above rank g.V.Clone.is_clone test h _ _ (λ k. at _ l) _ c.look_down.ensures.plan.left (above_at l h c.requires.order g.T.Integer.low g.T.Integer.high _ r)
-          (subst (λ o. IfSome c.look_down.result.0.left (λ f. h <ℤ rank f.end → f.value ≡ false → IsClonedIf g.V.Clone.is_clone true o c.in_ok-above.above)) c.look_down.ensures.value c.in_ok-above.ensures.clone);
+      keys_outside = c.look_down.ensures.len;
+      above = cloned_above rank g.V.Clone.is_clone test h _ _ (λ k. at _ l) _ c.look_down.ensures.plan.predecessor (above_at l h c.requires.order g.T.Integer.low g.T.Integer.high _ r)
+          (subst (λ o. IfSome c.look_down.result.0.predecessor (λ f. h <ℤ rank f.end → f.value ≡ false → IsClonedIf g.V.Clone.is_clone true o c.in_ok-above.above)) c.look_down.ensures.value c.in_ok-above.ensures.clone);
       value = subst (λ o. IsClonedIf g.V.Clone.is_clone c.args.wanted o c.in_ok-value.value) c.look_down.ensures.value c.in_ok-value.ensures.clone;
     }) c.requires.ranges

@@ -2,8 +2,8 @@ use Rattle.blaze_table.proofs.Words.{ap, sym, ◌∙◌, is_some, range_in, show
 use Rattle.blaze_table.proofs.Paints.Inner.{both_some, place_over}
 use Rattle.blaze_table.proofs.edit.place.put.Goals as goal
 
-pub put_over-requires-clause-place : goal.put_over-requires-clause-place
-put_over-requires-clause-place g c =
+pub replace_planned-requires-clause-place : goal.replace_planned-requires-clause-place
+replace_planned-requires-clause-place g c =
     let rank = g.T.Integer.rank in
     let lo = rank c.args.lo in
     let es = c.args.entries.now.entries in

@@ -17,9 +17,9 @@ add_one-next-requires g c = record {
 pub remove_next-requires : goal.remove_next-requires
 remove_next-requires g c =
     let old = c.args.entries.now.entries in
-    let left = ap length c.loop-turn.invariant.from in
+    let predecessor = ap length c.loop-turn.invariant.from in
     let all = ap (λ k. length (from k old)) c.add_one-next.ensures in
-    omega (arith, left, all, length-drop c.loop-turn._turn (from (g.T.Integer.rank c.add_one-next.result) old), c.requires)
+    omega (arith, predecessor, all, length-drop c.loop-turn._turn (from (g.T.Integer.rank c.add_one-next.result) old), c.requires)
 
 pub loop-turn-preserved : goal.loop-turn-preserved
 loop-turn-preserved g c =

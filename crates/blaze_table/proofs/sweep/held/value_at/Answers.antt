@@ -4,7 +4,7 @@ use Rattle.std.specs.Prelude.{slice_get, IsSome}
 use Rattle.std.proofs.lemmas.List.{length-map}
 use Rattle.std.proofs.lemmas.Option.{slice_get_read}
 use Rattle.blaze_table.specs.Entries.{SameOption, shown_entry, shown_list}
-use Rattle.blaze_table.specs.declared.sweep.held.Held.TheVariants.{Kept, Moved}
+use Rattle.blaze_table.specs.declared.sweep.held.Held.TheVariants.{Present, Moved}
 use Rattle.blaze_table.specs.Held.{held_value}
 use Rattle.blaze_table.proofs.Sweeping.Held.{within_held, within_entries, moved_value}
 use Rattle.blaze_table.proofs.sweep.held.value_at.Goals as goal
@@ -34,16 +34,16 @@ bounds-entries-at g c =
     let w = within_entries es c.in-Moved.at (subst (λ o. IsSome (held_value es o)) is c.requires.there) in
     omega (arith, w, length-map c.args.entries.now (shown_entry g.T.Integer.rank (λ v. v)))
 
-pub returns-in-Kept-clause-value : goal.returns-in-Kept-clause-value
-returns-in-Kept-clause-value g c =
+pub returns-in-Present-clause-value : goal.returns-in-Present-clause-value
+returns-in-Present-clause-value g c =
     let held = c.args.held.now.items in
     let es = shown_list g.T.Integer.rank c.args.entries.now in
     let l = within_held es held c.args.index c.requires.there in
-    let is : slice_get held c.args.index ≡ Some (Kept c.in-Kept.value) = slice_get_read held (length held) c.args.index c.index_mut.result.now refl l c.index_mut.ensures.value ∙ ap Some (sym c.replace.ensures.value ∙ c.in-Kept.is) in
-    subst (λ o. SameOption g.V.PartialEq.eq (Some c.in-Kept.value) (held_value es o)) (sym is) (g.met.V.Eq.laws.refl c.in-Kept.value)
+    let is : slice_get held c.args.index ≡ Some (Present c.in-Present.value) = slice_get_read held (length held) c.args.index c.index_mut.result.now refl l c.index_mut.ensures.value ∙ ap Some (sym c.replace.ensures.value ∙ c.in-Present.is) in
+    subst (λ o. SameOption g.V.PartialEq.eq (Some c.in-Present.value) (held_value es o)) (sym is) (g.met.V.Eq.laws.refl c.in-Present.value)
 
-pub returns-in-Kept-clause-held : goal.returns-in-Kept-clause-held
-returns-in-Kept-clause-held g c = grind (arith, common_steps)
+pub returns-in-Present-clause-held : goal.returns-in-Present-clause-held
+returns-in-Present-clause-held g c = grind (arith, common_steps)
 
 pub returns-in_ok-value-in-Moved-clause-held : goal.returns-in_ok-value-in-Moved-clause-held
 returns-in_ok-value-in-Moved-clause-held g c = grind (arith, common_steps)

@@ -5,7 +5,7 @@ use Rattle.std.proofs.lemmas.List.Sorted.{answers_always}
 use Rattle.std.specs.Vec.Iter.{into_iter_items}
 use Rattle.blaze_int.proofs.Comparisons.{le_holds, le_fails}
 use Rattle.blaze_table.specs.Entries.{shown_entry, shown_list}
-use Rattle.blaze_table.specs.Pieces.{IsPlaced}
+use Rattle.blaze_table.specs.Pieces.{IsPlacedPair}
 use Rattle.blaze_table.proofs.Sweeping.Placed.{head_of_drop, placed_none, placed_skip, placed_more, placed_sorted, ends_are_keys, ascends}
 use Rattle.blaze_table.proofs.sweep.placed.placed_of.Goals as goal
 
@@ -65,7 +65,7 @@ returns g c =
     record {
       placed = placed;
       ascending = ascends rank g.T.Integer.low g.T.Integer.high g.T.Ord.cmp g.met.T.Integer.ranked.order new keys
-          (All-weaker (IsPlaced rank ps) (λ p. rank p.start ≤ℤ rank p.end) (λ p h. h.order) new placed.known)
+          (All-weaker (IsPlacedPair rank ps) (λ p. rank p.start ≤ℤ rank p.end) (λ p h. h.order) new placed.known)
           (sort.sorted (λ p. p.start) (answers_always _ _ _ (λ f a r h k. search rules)));
       keys = keys;
     }

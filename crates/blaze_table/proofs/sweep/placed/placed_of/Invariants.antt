@@ -1,7 +1,7 @@
 use Rattle.std.proofs.Common.{◌≡◌, ◌+◌, length, drop}
 use Rattle.std.specs.Vec.Iter.{into_iter_items}
 use Rattle.blaze_table.specs.Entries.{shown_list}
-use Rattle.blaze_table.specs.Pieces.{ArePlacedBelow}
+use Rattle.blaze_table.specs.Pieces.{ArePairsPlacedBelow}
 use Rattle.blaze_table.proofs.sweep.placed.placed_of.Given as goal
 
 abbrev pub invariant-loop-start : goal.invariant-loop-start
@@ -10,5 +10,5 @@ invariant-loop-start g l =
     record {
       in_all : l.count + length (into_iter_items l.start-iterator) ≡ length l.fn.pairs.items;
       rest : drop l.count (shown_list rank l.fn.pairs.items) ≡ shown_list rank (into_iter_items l.start-iterator);
-      so_far : ArePlacedBelow rank (shown_list rank l.fn.pairs.items) l.count l.placed.items;
+      so_far : ArePairsPlacedBelow rank (shown_list rank l.fn.pairs.items) l.count l.placed.items;
     }

@@ -1,4 +1,4 @@
-use Rattle.blaze_table.proofs.Words.{map, sym, subst, ap, ◌∙◌, CountedEntries, entry, at, IsFilled, IsHeldFrom, IsCounted}
+use Rattle.blaze_table.proofs.Words.{map, sym, subst, ap, ◌∙◌, CountedEntries, entry, at, IsFilled, IsMappedFrom, IsCounted}
 use Rattle.blaze_table.proofs.Canonical.RangeMaps.{range_map}
 use Rattle.blaze_table.proofs.Fills.Filled.{filled_none}
 use Rattle.blaze_table.proofs.Fills.Fillings.{filled_whole, gap_is_not_held}
@@ -25,7 +25,7 @@ returns-in-Ok-clause-ok g c =
     let new = c.join_all.new.entries.entries in
     subst (λ (s : CountedEntries g.row.V.Denot). IsFilled eq g.T.Integer.low g.T.Integer.high p s.entries new) c.self.view_is
     (filled_whole eq g.met.V.Eq.laws g.T.Integer.low g.T.Integer.high (rank c.args.lo) (rank c.args.hi) (rank c.in-Some.first.start) (rank c.in-Some.first.end) c.args.value
-    (map rank c.put_all.new.made.starts.items) (map rank c.put_all.new.made.joints.items)
+    (map rank c.put_all.new.made.starts.items) (map rank c.put_all.new.made.join_keys.items)
     c.self.inside.entries.counted.entries c.put_all.new.entries.counted.entries new c.self.invariant.canonical c.in-Some.ensures.gap c.in-Ok.ensures.filled
     c.join_all.ensures.same c.join_all.ensures.kept c.join_all.ensures.canonical c.join_all.ensures.keys)
 
@@ -33,13 +33,13 @@ pub returns-in-Ok-clause-held : goal.returns-in-Ok-clause-held
 returns-in-Ok-clause-held g c s =
     let rank = g.T.Integer.rank in
     absurd (gap_is_not_held g.V.PartialEq.eq g.met.V.Eq.laws c.self.inside.entries.counted.entries (rank c.args.lo) (rank c.args.hi) (rank c.in-Some.first.start) (rank c.in-Some.first.end) c.in-Some.ensures.gap
-    (subst (λ (s : CountedEntries g.row.V.Denot). IsHeldFrom (at s.entries) (rank c.args.lo) (rank c.args.hi)) (sym c.self.view_is) s))
+    (subst (λ (s : CountedEntries g.row.V.Denot). IsMappedFrom (at s.entries) (rank c.args.lo) (rank c.args.hi)) (sym c.self.view_is) s))
 
 pub returns-in-Err-clause-held : goal.returns-in-Err-clause-held
 returns-in-Err-clause-held g c s =
     let rank = g.T.Integer.rank in
     absurd (gap_is_not_held g.V.PartialEq.eq g.met.V.Eq.laws c.self.inside.entries.counted.entries (rank c.args.lo) (rank c.args.hi) (rank c.in-Some.first.start) (rank c.in-Some.first.end) c.in-Some.ensures.gap
-    (subst (λ (s : CountedEntries g.row.V.Denot). IsHeldFrom (at s.entries) (rank c.args.lo) (rank c.args.hi)) (sym c.self.view_is) s))
+    (subst (λ (s : CountedEntries g.row.V.Denot). IsMappedFrom (at s.entries) (rank c.args.lo) (rank c.args.hi)) (sym c.self.view_is) s))
 
 pub returns-in-Err-clause-err : goal.returns-in-Err-clause-err
 returns-in-Err-clause-err g c = c.take_back.ensures.entries ∙ c.in-Err.ensures.back.taken ∙ ap (λ (s : CountedEntries g.row.V.Denot). s.entries) c.self.view_is

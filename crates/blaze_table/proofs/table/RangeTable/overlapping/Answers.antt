@@ -1,4 +1,4 @@
-use Rattle.blaze_table.proofs.Words.{◌≡◌, ◌≤ℤ◌, ◌∙◌, arith, ap, subst, option_map, ints, up_to, CountedEntries, overlapping, shown_entry, entry_at, never}
+use Rattle.blaze_table.proofs.Words.{◌≡◌, ◌≤ℤ◌, ◌∙◌, arith, ap, subst, option_map, ints, up_to, CountedEntries, overlapping, shown_entry, entry_at, never_equal}
 use Rattle.blaze_table.proofs.Fills.Ordered.{ordered_of}
 use Rattle.blaze_table.proofs.Neighbours.Ending.{ending_clear, ending_held, found_from}
 use Rattle.blaze_table.proofs.table.RangeTable.overlapping.Goals as goal
@@ -20,7 +20,7 @@ returns-in-Some g c =
     let rank = g.T.Integer.rank in
     let es = c.self.inside.entries.counted.entries in
     c.iter_between.ensures
-    ∙ ap (up_to (rank c.args.hi)) (ending_held never (rank c.args.lo) (shown_entry rank (λ v. v.now) c.in-Some.found) es (ordered_of g.V.PartialEq.eq es c.self.invariant.canonical)
+    ∙ ap (up_to (rank c.args.hi)) (ending_held never_equal (rank c.args.lo) (shown_entry rank (λ v. v.now) c.in-Some.found) es (ordered_of g.V.PartialEq.eq es c.self.invariant.canonical)
     (subst (λ o. option_map (shown_entry rank (λ v. v.now)) o ≡ entry_at es (rank c.args.lo)) c.in-Some.is c.entry_holding.ensures))
     ∙ ap (λ (s : CountedEntries g.row.V.Denot). overlapping (rank c.args.lo) (rank c.args.hi) s.entries) c.self.view_is
 
@@ -29,6 +29,6 @@ returns-in-None g c =
     let rank = g.T.Integer.rank in
     let es = c.self.inside.entries.counted.entries in
     c.iter_between-in-None.ensures
-    ∙ ap (up_to (rank c.args.hi)) (ending_clear never (rank c.args.lo) es (ordered_of g.V.PartialEq.eq es c.self.invariant.canonical)
+    ∙ ap (up_to (rank c.args.hi)) (ending_clear never_equal (rank c.args.lo) es (ordered_of g.V.PartialEq.eq es c.self.invariant.canonical)
     (subst (λ o. option_map (shown_entry rank (λ v. v.now)) o ≡ entry_at es (rank c.args.lo)) c.in-None.is c.entry_holding.ensures))
     ∙ ap (λ (s : CountedEntries g.row.V.Denot). overlapping (rank c.args.lo) (rank c.args.hi) s.entries) c.self.view_is

@@ -1,4 +1,4 @@
-use Rattle.blaze_table.proofs.Words.{if_err, length, subst, ap, arith, slice_get, CountedEntries, IsFirstCut, IsAmongOthers, IfSome}
+use Rattle.blaze_table.proofs.Words.{if_err, length, subst, ap, arith, slice_get, CountedEntries, IsFirstKeyRemoved, IsAmongOthers, IfSome}
 use Rattle.blaze_table.proofs.Canonical.RangeMaps.{cut_map}
 use Rattle.blaze_table.proofs.Cuts.Ends.{first_refused, first_there}
 use Rattle.blaze_table.proofs.table.RangeTable.pop_first.Goals as goal
@@ -16,7 +16,7 @@ returns-clause-ok g c =
     let eq = g.V.PartialEq.eq in
     let new = c.cut_first.new.entries.entries in
     let e = c.in_ok-key.ensures.cut in
-    subst (λ (s : CountedEntries g.row.V.Denot). IsFirstCut eq g.T.Integer.low g.T.Integer.high (rank c.in_ok-key.key) c.in_ok-key.value s.entries new) c.self.view_is
+    subst (λ (s : CountedEntries g.row.V.Denot). IsFirstKeyRemoved eq g.T.Integer.low g.T.Integer.high (rank c.in_ok-key.key) c.in_ok-key.value s.entries new) c.self.view_is
     (record { first = e.first; equal = e.cut.value; cut = cut_map eq g.met.V.Eq.laws g.T.Integer.low g.T.Integer.high _ (rank c.in_ok-key.key) _ _ new e.cut })
 
 pub cut_first-requires-clause-first : goal.cut_first-requires-clause-first

@@ -1,4 +1,4 @@
-use Rattle.range_map_blaze.proofs.Words.{if_err, ◌≡◌, [], Some, subst, slice_get, MatchOption, CountedEntries, IsAmongOthers, IsFirstCut, Entry}
+use Rattle.range_map_blaze.proofs.Words.{if_err, ◌≡◌, [], Some, subst, slice_get, MatchOption, CountedEntries, IsAmongOthers, IsFirstKeyRemoved, Entry}
 use Rattle.range_map_blaze.proofs.Order.EndPairs.{first_of, pops_least}
 use Rattle.range_map_blaze.proofs.map.RangeMapBlaze.pop_first.Goals as goal
 
@@ -14,4 +14,4 @@ returns-clause-ok g c =
     let eq = g.V.PartialEq.eq in
     let new = c.pop_first.new.self in
     pops_least rank eq g.T.Integer.low g.T.Integer.high c.in_ok-popped.popped c.args.self.now new c.in_hand.ensures.runs.disjoint c.in_hand.ensures.runs.ascending
-    (subst (λ (s : CountedEntries g.row.V.Denot). MatchOption c.in_ok-popped.popped ((s.entries ≡ []) × (new ≡ s)) (λ pair. IsFirstCut eq g.T.Integer.low g.T.Integer.high (rank pair.0) pair.1 s.entries new.entries)) c.self.view_is c.in_ok-popped.ensures.ok)
+    (subst (λ (s : CountedEntries g.row.V.Denot). MatchOption c.in_ok-popped.popped ((s.entries ≡ []) × (new ≡ s)) (λ pair. IsFirstKeyRemoved eq g.T.Integer.low g.T.Integer.high (rank pair.0) pair.1 s.entries new.entries)) c.self.view_is c.in_ok-popped.ensures.ok)

@@ -1,4 +1,4 @@
-use Rattle.range_map_blaze.proofs.Words.{if_err, ◌≡◌, ◌-◌, length, [], Some, subst, slice_get, MatchOption, CountedEntries, IsAmongOthers, IsLastCut, Entry}
+use Rattle.range_map_blaze.proofs.Words.{if_err, ◌≡◌, ◌-◌, length, [], Some, subst, slice_get, MatchOption, CountedEntries, IsAmongOthers, IsLastKeyRemoved, Entry}
 use Rattle.range_map_blaze.proofs.Order.EndPairs.{last_of, pops_greatest}
 use Rattle.range_map_blaze.proofs.map.RangeMapBlaze.pop_last.Goals as goal
 
@@ -14,4 +14,4 @@ returns-clause-ok g c =
     let eq = g.V.PartialEq.eq in
     let new = c.pop_last.new.self in
     pops_greatest rank eq g.T.Integer.low g.T.Integer.high c.in_ok-popped.popped c.args.self.now new c.in_hand.ensures.runs.disjoint c.in_hand.ensures.runs.ascending
-    (subst (λ (s : CountedEntries g.row.V.Denot). MatchOption c.in_ok-popped.popped ((s.entries ≡ []) × (new ≡ s)) (λ pair. IsLastCut eq g.T.Integer.low g.T.Integer.high (rank pair.0) pair.1 s.entries new.entries)) c.self.view_is c.in_ok-popped.ensures.ok)
+    (subst (λ (s : CountedEntries g.row.V.Denot). MatchOption c.in_ok-popped.popped ((s.entries ≡ []) × (new ≡ s)) (λ pair. IsLastKeyRemoved eq g.T.Integer.low g.T.Integer.high (rank pair.0) pair.1 s.entries new.entries)) c.self.view_is c.in_ok-popped.ensures.ok)

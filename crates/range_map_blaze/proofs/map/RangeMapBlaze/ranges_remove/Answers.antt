@@ -1,15 +1,15 @@
 use Rattle.range_map_blaze.proofs.Words.{rules, ◌≡◌, ℤ, ◌<ℤ◌, Bool, true, false, ◌&&◌, cond, List, None, refl, ◌∙◌, ap, sym, subst, arith, IsEquivalence, int_le, ints, by_lt_z, le_false, same_itself, IsRangeMap, IsRangeCut, Entry, at, SameOption}
 use Rattle.range_map_blaze.proofs.map.RangeMapBlaze.ranges_remove.Goals as goal
 
-never : (a : Bool) → (a && false) ≡ false
-never true = refl
-never false = refl
+never_equal : (a : Bool) → (a && false) ≡ false
+never_equal true = refl
+never_equal false = refl
 
 module _ {V : Type 0} (eq : V → V → Bool) (laws : IsEquivalence eq) (low high l h : ℤ) (es : List (Entry V)) (w : h <ℤ l) where
   off : (j : ℤ) → (int_le l j && int_le j h) ≡ false
   off j = by_lt_z j l
       (λ u. ap (λ b. b && int_le j h) (le_false l j u))
-      (λ u. ap (λ b. int_le l j && b) (le_false j h (omega (arith, ints))) ∙ never (int_le l j))
+      (λ u. ap (λ b. int_le l j && b) (le_false j h (omega (arith, ints))) ∙ never_equal (int_le l j))
 
   -- a range without a key takes nothing out
   cut_nowhere : IsRangeMap eq low high es → IsRangeCut eq low high l h es es

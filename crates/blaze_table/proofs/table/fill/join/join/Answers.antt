@@ -31,14 +31,14 @@ returns-in-Some-range_at_or_below-clause-joined g c =
     let seen = ap (λ (s : CountedEntries g.row.V.Denot). s.entries) c.in-Some.ensures.looked in
     let seen2 = ap (λ (s : CountedEntries g.row.V.Denot). s.entries) c.in-Some-range_at_or_below.ensures.looked ∙ seen in
     let out = ap (λ (s : CountedEntries g.row.V.Denot). s.entries) c.remove.ensures.entries in
-    let moved = ap (λ (s : CountedEntries g.row.V.Denot). s.entries) c.set_end.ensures in
+    let moved_count = ap (λ (s : CountedEntries g.row.V.Denot). s.entries) c.set_end.ensures in
     let up : rank c.args.key ≤ℤ rank c.in-Some.here.start = grind (arith, ints, c.is_at_most.ensures, c.if-is_at_most.true) in
     let two : IsLastBelow (rank c.args.key) (rank c.in-Some-range_at_or_below.below.start) (rank c.in-Some-range_at_or_below.below.end) es =
     subst (λ x. IsLastBelow (rank c.args.key) (rank c.in-Some-range_at_or_below.below.start) (rank c.in-Some-range_at_or_below.below.end) x) seen
     (subst (λ k. IsLastBelow k (rank c.in-Some-range_at_or_below.below.start) (rank c.in-Some-range_at_or_below.below.end) c.range_at_or_below.new.self.entries) c.sub_one.ensures c.in-Some-range_at_or_below.ensures.found) in
     joined g.V.PartialEq.eq g.met.V.Eq.laws g.T.Integer.low g.T.Integer.high (rank c.args.key) es c.requires.ordered c.requires.keys c.in_hand.ensures c.requires.joint
     (rank c.in-Some.here.start) (rank c.in-Some.here.end) (rank c.in-Some-range_at_or_below.below.start) (rank c.in-Some-range_at_or_below.below.end) c.in-Some.ensures.found up two c.set_end.new.self.entries
-    (moved ∙ ap (with_end (rank c.in-Some-range_at_or_below.below.start) (rank c.in-Some.here.end)) (out ∙ ap (without (rank c.args.key)) seen2))
+    (moved_count ∙ ap (with_end (rank c.in-Some-range_at_or_below.below.start) (rank c.in-Some.here.end)) (out ∙ ap (without (rank c.args.key)) seen2))
 
 pub returns-in_default-range_at_or_below-clause-joined : goal.returns-in_default-range_at_or_below-clause-joined
 returns-in_default-range_at_or_below-clause-joined g c =

@@ -6,7 +6,7 @@ use Rattle.blaze_table.proofs.table.fill.join.join_all.Goals as goal
 
 pub join-requires-clause-joint : goal.join-requires-clause-joint
 join-requires-clause-joint g c =
-    joint_next g.V.PartialEq.eq g.met.V.Eq.laws g.T.Integer.rank c.loop-key.joints.items c.pop.new.self.items c.in-Some.key c.in-Some.ensures.items c.loop-key.entries.entries c.loop-key.invariant.joined
+    joint_next g.V.PartialEq.eq g.met.V.Eq.laws g.T.Integer.rank c.loop-key.join_keys.items c.pop.new.self.items c.in-Some.key c.in-Some.ensures.items c.loop-key.entries.entries c.loop-key.invariant.joined
 
 pub loop-key-init : goal.loop-key-init
 loop-key-init g c = record {
@@ -26,14 +26,14 @@ loop-key-preserved g c =
     record {
       ordered = j.ordered;
       are_keys = j.are_keys;
-      joined = joined_next g.V.PartialEq.eq g.met.V.Eq.laws g.T.Integer.rank c.loop-key.joints.items c.pop.new.self.items c.in-Some.key c.in-Some.ensures.items c.loop-key.entries.entries i.joined g.T.Integer.low g.T.Integer.high c.join.new.entries.entries j;
+      joined = joined_next g.V.PartialEq.eq g.met.V.Eq.laws g.T.Integer.rank c.loop-key.join_keys.items c.pop.new.self.items c.in-Some.key c.in-Some.ensures.items c.loop-key.entries.entries i.joined g.T.Integer.low g.T.Integer.high c.join.new.entries.entries j;
       count = j.count ∙ i.count;
       same = same_then g.V.PartialEq.eq g.met.V.Eq.laws c.join.new.entries.entries c.loop-key.entries.entries c.args.entries.now.entries j.same i.same;
       kept = kept_next g.V.PartialEq.eq g.met.V.Eq.laws (g.T.Integer.rank c.in-Some.key) g.T.Integer.low g.T.Integer.high c.args.entries.now.entries c.loop-key.entries.entries c.join.new.entries.entries i.same
-          (joint_next g.V.PartialEq.eq g.met.V.Eq.laws g.T.Integer.rank c.loop-key.joints.items c.pop.new.self.items c.in-Some.key c.in-Some.ensures.items c.loop-key.entries.entries i.joined) j i.kept;
+          (joint_next g.V.PartialEq.eq g.met.V.Eq.laws g.T.Integer.rank c.loop-key.join_keys.items c.pop.new.self.items c.in-Some.key c.in-Some.ensures.items c.loop-key.entries.entries i.joined) j i.kept;
       counted = counted_then c.args.entries.now c.loop-key.entries c.join.new.entries i.counted c.join.ensures.counted;
     }
 
 pub returns-clause-canonical : goal.returns-clause-canonical
 returns-clause-canonical g c =
-    joined_all g.V.PartialEq.eq g.met.V.Eq.laws g.T.Integer.rank c.loop-key.joints.items c.loop-key.entries.entries (omega (arith, c.in_default.ensures.cases)) c.loop-key.invariant.ordered c.loop-key.invariant.joined
+    joined_all g.V.PartialEq.eq g.met.V.Eq.laws g.T.Integer.rank c.loop-key.join_keys.items c.loop-key.entries.entries (omega (arith, c.in_default.ensures.cases)) c.loop-key.invariant.ordered c.loop-key.invariant.joined

@@ -7,7 +7,7 @@ returns-clause-ok g c =
     record {
       put = c.in_ok-put.ensures.ok;
       remembered = ap (map rank) c.in_ok-put.ensures.starts ∙ map-append rank c.args.made.now.starts.items (c.args.gap.start ∷ []);
-      half = map rank c.note.new.joints.items;
+      half = map rank c.note.new.join_keys.items;
       below = c.in_ok-note.ensures;
       above = c.in_ok-note_after.ensures;
     }

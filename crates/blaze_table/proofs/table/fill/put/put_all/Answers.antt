@@ -17,7 +17,7 @@ loop-next-init g c =
     record {
       table = ordered_table eq g.T.Integer.low g.T.Integer.high (g.T.SafeLen.SafeLength.number c.args.len) old c.requires.table;
       filling = filling_first eq g.met.V.Eq.laws old (rank c.args.first.start) (rank c.args.first.end) (rank c.args.hi) c.args.value _ _ c.requires.table.canonical c.requires.first.gap
-          (map_none rank c.args.made.now.starts.items c.requires.made.no_start) (map_none rank c.args.made.now.joints.items c.requires.made.no_joint);
+          (map_none rank c.args.made.now.starts.items c.requires.made.no_start) (map_none rank c.args.made.now.join_keys.items c.requires.made.no_joint);
       beside = c.requires.first.beside;
       counted = counted_none c.args.entries.now.counted;
     }
@@ -37,11 +37,11 @@ plus-sum-requires g c = record {
       let w = c.in_ok-clone.clone in
       let starts = map rank c.loop-next.made.starts.items in
       let more = map rank c.fill_gap.new.made.starts.items in
-      let joints = map rank c.loop-next.made.joints.items in
-      let all = map rank c.fill_gap.new.made.joints.items in
+      let join_keys = map rank c.loop-next.made.join_keys.items in
+      let all = map rank c.fill_gap.new.made.join_keys.items in
       let d = c.in_ok-fill_gap.ensures.ok in
       let like = c.requires.clones _ _ c.in_ok-clone.ensures.cases in
-      let room = room_more eq laws low high (rank c.args.first.start) (rank c.args.hi) (rank c.loop-next.gap.start) (rank c.loop-next.gap.end) c.args.value w starts more joints all old cur new c.in_hand.ensures.from c.in_hand-2.ensures.to i.table.canonical i.filling c.loop-next.gap.equal_below c.loop-next.gap.equal_above i.beside d like (g.T.SafeLen.SafeLength.number c.loop-next.sum) g.met.T.Integer.ranked.some_key i.table in
+      let room = room_more eq laws low high (rank c.args.first.start) (rank c.args.hi) (rank c.loop-next.gap.start) (rank c.loop-next.gap.end) c.args.value w starts more join_keys all old cur new c.in_hand.ensures.from c.in_hand-2.ensures.to i.table.canonical i.filling c.loop-next.gap.equal_below c.loop-next.gap.equal_above i.beside d like (g.T.SafeLen.SafeLength.number c.loop-next.sum) g.met.T.Integer.ranked.some_key i.table in
       all_fit _ _ _ _ _ _ room g.met.T.Integer.has_room c.length.ensures;
 }
 
@@ -65,14 +65,14 @@ loop-next-preserved g c =
     let w = c.in_ok-clone.clone in
     let starts = map rank c.loop-next.made.starts.items in
     let more = map rank c.fill_gap.new.made.starts.items in
-    let joints = map rank c.loop-next.made.joints.items in
-    let all = map rank c.fill_gap.new.made.joints.items in
+    let join_keys = map rank c.loop-next.made.join_keys.items in
+    let all = map rank c.fill_gap.new.made.join_keys.items in
     let d = c.in_ok-fill_gap.ensures.ok in
     let like = c.requires.clones _ _ c.in_ok-clone.ensures.cases in
     record {
-      table = table_more eq laws low high (rank c.args.first.start) (rank c.args.hi) (rank c.loop-next.gap.start) (rank c.loop-next.gap.end) c.args.value w starts more joints all old cur new c.in_hand.ensures.from c.in_hand-2.ensures.to i.table.canonical i.filling c.loop-next.gap.equal_below c.loop-next.gap.equal_above i.beside d like (g.T.SafeLen.SafeLength.number c.loop-next.sum) (g.T.SafeLen.SafeLength.number c.plus-sum.result) i.table (all_keys _ _ _ _ _ _ refl c.length.ensures c.plus-sum.ensures);
-      filling = filling_next eq laws low high (rank c.args.first.start) (rank c.args.hi) (rank c.loop-next.gap.start) (rank c.loop-next.gap.end) c.args.value w starts more joints all old cur new c.in_hand.ensures.from c.in_hand-2.ensures.to i.table.canonical i.filling c.loop-next.gap.equal_below c.loop-next.gap.equal_above i.beside d like (rank c.in-Some.next.start) (rank c.in-Some.next.end) c.in-Some.ensures.gap;
-      beside = beside_next eq laws low high (rank c.args.first.start) (rank c.args.hi) (rank c.loop-next.gap.start) (rank c.loop-next.gap.end) c.args.value w starts more joints all old cur new c.in_hand.ensures.from c.in_hand-2.ensures.to i.table.canonical i.filling c.loop-next.gap.equal_below c.loop-next.gap.equal_above i.beside d like (rank c.in-Some.next.start) (rank c.in-Some.next.end) c.in-Some.next.equal_below c.in-Some.next.equal_above c.in-Some.ensures.gap c.in-Some.ensures.beside;
+      table = table_more eq laws low high (rank c.args.first.start) (rank c.args.hi) (rank c.loop-next.gap.start) (rank c.loop-next.gap.end) c.args.value w starts more join_keys all old cur new c.in_hand.ensures.from c.in_hand-2.ensures.to i.table.canonical i.filling c.loop-next.gap.equal_below c.loop-next.gap.equal_above i.beside d like (g.T.SafeLen.SafeLength.number c.loop-next.sum) (g.T.SafeLen.SafeLength.number c.plus-sum.result) i.table (all_keys _ _ _ _ _ _ refl c.length.ensures c.plus-sum.ensures);
+      filling = filling_next eq laws low high (rank c.args.first.start) (rank c.args.hi) (rank c.loop-next.gap.start) (rank c.loop-next.gap.end) c.args.value w starts more join_keys all old cur new c.in_hand.ensures.from c.in_hand-2.ensures.to i.table.canonical i.filling c.loop-next.gap.equal_below c.loop-next.gap.equal_above i.beside d like (rank c.in-Some.next.start) (rank c.in-Some.next.end) c.in-Some.ensures.gap;
+      beside = beside_next eq laws low high (rank c.args.first.start) (rank c.args.hi) (rank c.loop-next.gap.start) (rank c.loop-next.gap.end) c.args.value w starts more join_keys all old cur new c.in_hand.ensures.from c.in_hand-2.ensures.to i.table.canonical i.filling c.loop-next.gap.equal_below c.loop-next.gap.equal_above i.beside d like (rank c.in-Some.next.start) (rank c.in-Some.next.end) c.in-Some.next.equal_below c.in-Some.next.equal_above c.in-Some.ensures.gap c.in-Some.ensures.beside;
       counted = counted_then c.args.entries.now.counted c.loop-next.entries.counted c.fill_gap.new.entries i.counted c.in_ok-fill_gap.ensures.counted;
     }
 
@@ -91,11 +91,11 @@ plus-requires g c = record {
       let w = c.args.value in
       let starts = map rank c.loop-next.made.starts.items in
       let more = map rank c.fill_gap-2.new.made.starts.items in
-      let joints = map rank c.loop-next.made.joints.items in
-      let all = map rank c.fill_gap-2.new.made.joints.items in
+      let join_keys = map rank c.loop-next.made.join_keys.items in
+      let all = map rank c.fill_gap-2.new.made.join_keys.items in
       let d = c.in_ok-fill_gap-2.ensures.ok in
       let like = laws.refl c.args.value in
-      let room = room_more eq laws low high (rank c.args.first.start) (rank c.args.hi) (rank c.loop-next.gap.start) (rank c.loop-next.gap.end) c.args.value w starts more joints all old cur new c.in_hand.ensures.from c.in_hand-2.ensures.to i.table.canonical i.filling c.loop-next.gap.equal_below c.loop-next.gap.equal_above i.beside d like (g.T.SafeLen.SafeLength.number c.loop-next.sum) g.met.T.Integer.ranked.some_key i.table in
+      let room = room_more eq laws low high (rank c.args.first.start) (rank c.args.hi) (rank c.loop-next.gap.start) (rank c.loop-next.gap.end) c.args.value w starts more join_keys all old cur new c.in_hand.ensures.from c.in_hand-2.ensures.to i.table.canonical i.filling c.loop-next.gap.equal_below c.loop-next.gap.equal_above i.beside d like (g.T.SafeLen.SafeLength.number c.loop-next.sum) g.met.T.Integer.ranked.some_key i.table in
       all_fit _ _ _ _ _ _ room g.met.T.Integer.has_room c.length-2.ensures;
 }
 
@@ -113,11 +113,11 @@ returns-clause-table g c =
     let w = c.args.value in
     let starts = map rank c.loop-next.made.starts.items in
     let more = map rank c.fill_gap-2.new.made.starts.items in
-    let joints = map rank c.loop-next.made.joints.items in
-    let all = map rank c.fill_gap-2.new.made.joints.items in
+    let join_keys = map rank c.loop-next.made.join_keys.items in
+    let all = map rank c.fill_gap-2.new.made.join_keys.items in
     let d = c.in_ok-fill_gap-2.ensures.ok in
     let like = laws.refl c.args.value in
-    table_more eq laws low high (rank c.args.first.start) (rank c.args.hi) (rank c.loop-next.gap.start) (rank c.loop-next.gap.end) c.args.value w starts more joints all old cur new c.in_hand.ensures.from c.in_hand-2.ensures.to i.table.canonical i.filling c.loop-next.gap.equal_below c.loop-next.gap.equal_above i.beside d like (g.T.SafeLen.SafeLength.number c.loop-next.sum) (g.T.SafeLen.SafeLength.number c.plus.result) i.table (all_keys _ _ _ _ _ _ refl c.length-2.ensures c.plus.ensures)
+    table_more eq laws low high (rank c.args.first.start) (rank c.args.hi) (rank c.loop-next.gap.start) (rank c.loop-next.gap.end) c.args.value w starts more join_keys all old cur new c.in_hand.ensures.from c.in_hand-2.ensures.to i.table.canonical i.filling c.loop-next.gap.equal_below c.loop-next.gap.equal_above i.beside d like (g.T.SafeLen.SafeLength.number c.loop-next.sum) (g.T.SafeLen.SafeLength.number c.plus.result) i.table (all_keys _ _ _ _ _ _ refl c.length-2.ensures c.plus.ensures)
 
 pub returns-clause-filled : goal.returns-clause-filled
 returns-clause-filled g c =
@@ -133,11 +133,11 @@ returns-clause-filled g c =
     let w = c.args.value in
     let starts = map rank c.loop-next.made.starts.items in
     let more = map rank c.fill_gap-2.new.made.starts.items in
-    let joints = map rank c.loop-next.made.joints.items in
-    let all = map rank c.fill_gap-2.new.made.joints.items in
+    let join_keys = map rank c.loop-next.made.join_keys.items in
+    let all = map rank c.fill_gap-2.new.made.join_keys.items in
     let d = c.in_ok-fill_gap-2.ensures.ok in
     let like = laws.refl c.args.value in
-    filling_last eq laws low high (rank c.args.first.start) (rank c.args.hi) (rank c.loop-next.gap.start) (rank c.loop-next.gap.end) c.args.value w starts more joints all old cur new c.in_hand.ensures.from c.in_hand-2.ensures.to i.table.canonical i.filling c.loop-next.gap.equal_below c.loop-next.gap.equal_above i.beside d like c.in_default.ensures
+    filling_last eq laws low high (rank c.args.first.start) (rank c.args.hi) (rank c.loop-next.gap.start) (rank c.loop-next.gap.end) c.args.value w starts more join_keys all old cur new c.in_hand.ensures.from c.in_hand-2.ensures.to i.table.canonical i.filling c.loop-next.gap.equal_below c.loop-next.gap.equal_above i.beside d like c.in_default.ensures
 
 pub fill_gap-requires-clause-absent : goal.fill_gap-requires-clause-absent
 fill_gap-requires-clause-absent g c =
