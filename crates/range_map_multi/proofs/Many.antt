@@ -1,5 +1,5 @@
 -- What is chosen from many lists, by two parts of them.
-use Rattle.range_map_multi.proofs.Words.{option_xor, ◌≡◌, ◌<◌, ℕ, ℤ, Bool, true, false, not, cond, ◌&&◌, suc, List, [], ◌∷◌, ◌++◌, length, map, take, drop, append_assoc, append-nil, Option, Some, None, is_some, refl, arith, ◌∙◌, sym, ap, subst, list_all, IsEquivalence, map-append, take-append-drop, list_all-append, same_trans, same_or, or_none, or_assoc, is_some_alike, Entry, at, SameOption, SameEntries, right_first, left_with_right, IsChosen, content_as, back, row, range_map_as, last_value, last_of_all, has_odd, last_of_odd, IsChosenOfMany, GivesEach, GivesBoth}
+use Rattle.range_map_multi.proofs.Words.{option_xor, ◌≡◌, ◌<◌, ℕ, ℤ, Bool, true, false, not, cond, ◌&&◌, suc, List, [], ◌∷◌, ◌++◌, length, map, take, drop, append_assoc, Option, Some, None, is_some, refl, arith, ◌∙◌, sym, ap, subst, list_all, IsEquivalence, map-append, take-append-drop, list_all-append, same_trans, same_or, or_none, or_assoc, is_some_alike, Entry, at, SameOption, SameEntries, right_first, left_with_right, IsChosen, content_as, back, row, range_map_as, last_value, last_of_all, has_odd, last_of_odd, IsChosenOfMany, GivesEach, GivesBoth}
 
 -- ---- lists
 
