@@ -83,13 +83,13 @@ impl<VCL: ValueCarrier, VCR: ValueCarrier, W, F: FnMut(Option<VCL>, Option<VCR>)
 }
 
 /// The closure gets the left stream's carrier, and the right stream's if it exists, at a segment of a left join.
-pub struct OnLeft;
+pub struct WithLeft;
 
 impl<VCL: ValueCarrier, VCR: ValueCarrier, W, F: FnMut(VCL, Option<VCR>) -> W> Asks<
     F,
     (Option<VCL>, Option<VCR>),
     W,
-> for OnLeft {
+> for WithLeft {
     type Arguments = (VCL, (Option<VCR>, ()));
 
     ghost shows = { with_left VCL.shown VCR.shown };

@@ -11,7 +11,7 @@ ghost use Rattle.range_map_blaze.specs.Made.{IsMade};
 use crate::map::RangeMapBlaze;
 use blaze_int::Integer;
 use blaze_streams::{
-    Asks, Both, CanonMapIter, Either, JoinKind, OnLeft, Owned, RangeValuesIter,
+    Asks, Both, CanonMapIter, Either, JoinKind, WithLeft, Owned, RangeValuesIter,
     SeekingRangeValuesIter, SortedDisjointMap, ValueCarrier, Whole, join_of,
 };
 use blaze_table::{RangeTable, push_entry};
@@ -193,7 +193,7 @@ impl<T: Integer, V: Eq + Clone> RangeMapBlaze<T, V> {
         ensures { IfOk result (IsMade (IsJoined (with_left (λ v. v.now) (λ v. v.now)) F.FnMut V.eq
             V2.eq T.low T.high Left W.eq f self.now.entries other.now.entries)) }
     {
-        joined::<T, V, V2, W, F, OnLeft>(
+        joined::<T, V, V2, W, F, WithLeft>(
             self.allocator(),
             &self.table,
             &other.table,

@@ -10,7 +10,7 @@ ghost use Rattle.range_map_blaze.specs.Made.{IsMade};
 use crate::joins::{joined, transformed};
 use crate::map::RangeMapBlaze;
 use blaze_int::Integer;
-use blaze_streams::{Both, Either, Fallible, JoinKind, OnLeft, Whole};
+use blaze_streams::{Both, Either, Fallible, JoinKind, WithLeft, Whole};
 use std::alloc::AllocError;
 
 impl<T: Integer, V: Eq + Clone> RangeMapBlaze<T, V> {
@@ -87,7 +87,7 @@ impl<T: Integer, V: Eq + Clone> RangeMapBlaze<T, V> {
             (ok_calls F.FnMut) V.eq V2.eq T.low T.high Left W.eq f self.now.entries
             other.now.entries)) }
     {
-        joined::<T, V, V2, W, F, Fallible<OnLeft>>(
+        joined::<T, V, V2, W, F, Fallible<WithLeft>>(
             self.allocator(),
             &self.table,
             &other.table,
