@@ -11,8 +11,8 @@ ghost use Rattle.range_map_blaze.specs.Made.{IsMade};
 use crate::map::RangeMapBlaze;
 use blaze_int::Integer;
 use blaze_streams::{
-    Asks, Both, CanonMapIter, Either, JoinKind, WithLeft, Owned, RangeValuesIter,
-    SeekingRangeValuesIter, SortedDisjointMap, ValueCarrier, Whole, join_of,
+    Asks, Both, CanonMapIter, Either, JoinKind, Owned, RangeValuesIter, SeekingRangeValuesIter,
+    SortedDisjointMap, ValueCarrier, Whole, WithLeft, join_of,
 };
 use blaze_table::{RangeTable, push_entry};
 use std::alloc::{AllocError, Global};

@@ -10,7 +10,7 @@ ghost use Rattle.range_map_blaze.specs.Made.{IsMade};
 use crate::joins::{joined, transformed};
 use crate::map::RangeMapBlaze;
 use blaze_int::Integer;
-use blaze_streams::{Both, Either, Fallible, JoinKind, WithLeft, Whole};
+use blaze_streams::{Both, Either, Fallible, JoinKind, Whole, WithLeft};
 use std::alloc::AllocError;
 
 impl<T: Integer, V: Eq + Clone> RangeMapBlaze<T, V> {
