@@ -143,7 +143,7 @@ if [ "$with_proof" ]; then
     printf 'echo "1 passed, 0 failed"\n' | tee "$work/tree/tests/"{wrapper,errors,style}.sh >"$work/tree/tests/tasks.sh"
     echo 0 >"$work/status"
     echo expected >"$work/output"
-    cp "$work/tree/tests/tasks.sh" "$work/tree/tests/doc_examples.sh"
+    for name in doc_examples crate_examples; do cp "$work/tree/tests/tasks.sh" "$work/tree/tests/$name.sh"; done
     status=0
     printed="$(stand_in "$work/tree/test" 2>"$work/told")" || status=$?
     told="$(cat "$work/told")"
