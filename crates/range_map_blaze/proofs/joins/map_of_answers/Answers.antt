@@ -39,6 +39,6 @@ from_canonical-requires g c = record {
 
 pub returns : goal.returns
 returns g c =
-    let entries_with_results = answered_all g.C.Asks.shows g.C.Asks.calls g.VC.Value.PartialEq.eq g.W.PartialEq.eq g.T.Integer.low g.T.Integer.high c.args.f _ g.met.W.Eq.laws _ _ _ c.loop-item.invariant
+    let answered = answered_all g.C.Asks.shows g.C.Asks.calls g.VC.Value.PartialEq.eq g.W.PartialEq.eq g.T.Integer.low g.T.Integer.high c.args.f _ g.met.W.Eq.laws _ _ _ c.loop-item.invariant
     (g.met.S.SortedDisjointMap.gives _ _ _ c.in-None.ensures.steps).0 in
     (rw c.in_ok-table.ensures answered, rw c.in_ok-table.ensures refl)
