@@ -83,11 +83,11 @@ module _ (low high l h : ℤ) (change : Option ℕ → Option ℕ) (old new : Li
   under k u = ap (λ b. cond (b && int_le k h) (change (at old k)) (at old k)) (le_false l k u)
 
   over : (k : ℤ) → h <ℤ k → changed l h change (at old) k ≡ at old k
-  over k u = ap (λ b. cond (int_le l k && b) (change (at old k)) (at old k)) (le_false k h u) ∙ never_equal (int_le l k)
+  over k u = ap (λ b. cond (int_le l k && b) (change (at old k)) (at old k)) (le_false k h u) ∙ never (int_le l k)
     where
-      never_equal : (b : Bool) → cond (b && false) (change (at old k)) (at old k) ≡ at old k
-      never_equal true = refl
-      never_equal false = refl
+      never : (b : Bool) → cond (b && false) (change (at old k)) (at old k) ≡ at old k
+      never true = refl
+      never false = refl
 
   kept : new ≡ old → (k : ℤ) (o : Option ℕ) → o ≡ at old k → SameOption nat_eq (at new k) o
   kept e k o is = same_along nat_eq (ap (λ es. at es k) (sym e)) (sym is) (same_itself nat_eq nat_eq_equiv (at old k))

@@ -8,7 +8,7 @@ use mir.Raw.{raw as bare}
 use mir.Val.{Val, vstruct, vcons, vnil, of_list}
 use base.Fraction.{full_share}
 use base.Fml.{feq, fsep}
-use base.Logic.{ent, guard, guard_i, never_equal, fst∗, snd∗, via}
+use base.Logic.{ent, guard, guard_i, never, fst∗, snd∗, via}
 use types.Logic.{Logic, sem}
 use contract.Monad.{fact_use}
 use types.Kit.{Item, Goal, Seq, Step, step, ‵, given, learn, use1, ◌$◌, move, drop, fsplit, fjoin, fpick, fpack, feq_i, feq_l}
@@ -94,7 +94,7 @@ module _ (X : RattleType) where
         → Seq K 𝓛 (‵ (Parts.own_val d vs) ∷ Γ) G
     parts_out t d vs k =
         fsplit t $ fpick t (λ vss. fsplit t $ feq_l t (λ ev. fsplit t $ feq_l t (λ ep. fsplit t $ handle_tells al t d.alloc vss.1.0 (λ h ea fits. move t (1 ∷ []) $ drop t $ move t (1 ∷ []) $
-        in_a_block t d.at (λ p. box_owns (ghosts.dealloc_token d.alloc) X p d.value) (fst∗ 𝓤 (never_equal 𝓤) (sem 𝓛 (ghosts.dealloc_token d.alloc (bare (lone X.mir)) null_ptr))) (λ b o e. k b o h
+        in_a_block t d.at (λ p. box_owns (ghosts.dealloc_token d.alloc) X p d.value) (fst∗ 𝓤 (never 𝓤) (sem 𝓛 (ghosts.dealloc_token d.alloc (bare (lone X.mir)) null_ptr))) (λ b o e. k b o h
         (subst (λ (p : Ptr). vs ≡ vstruct (of_list (ptr_val p ∷ h ∷ [])) ∷ []) e
         (subst (λ (ws : List Val). vs ≡ vstruct (of_list (ptr_val d.at ∷ (ws ++ []))) ∷ []) ea (subst (λ (ps : List Val). vs ≡ vstruct (of_list (ps ++ (vss.1.0 ++ []))) ∷ []) ep ev))) fits)))))
 

@@ -1,5 +1,5 @@
 -- `of` takes the box apart, and the parts own what it owned.
-use Rattle.range_map_c.proofs.Steps.{refl, sym, ap, subst, ◌≡◌, ◌∙◌, List, [], ◌∷◌, ◌++◌, inst_fn, Args, Fn, a_type, dnil, dcons, Val, vstruct, of_list, full_share, ftrue, fsep, flft, SProp, ent, emp, never_equal, id⊢, fst∗, WpFn, ◌⊑◌, ⊑_static, fact, fact_i, tables, sem, ‵, raw, ◌⊛◌, some, later, ◌$◌, ◌∵◌, !, qed, by, keep, move, drop, split, split3, join, fsplit, fjoin, fpick, pick, suffices, use0, use1, await, rewrite, feq_l, stop, fld, of_opd, no_more, and_then, returns, enter, alloc_all, pass_all, free_all, look_at, get, get_in, sets, lands_as, agg, sub, whole, no, owns, RattleType, RawPtr, param, layout, bounded, Ptr, block_ptr, null_ptr, ptr_val, in_a_block, types_at, plain, nothing, only, heard, Tuple, triple_of, calls_at, Stays, stay_dropped, walk_of, Goes-blank, handle_tells, fm, proved_at, leaves, box_owns, box_out, box_in, ghosts, dict, Global}
+use Rattle.range_map_c.proofs.Steps.{refl, sym, ap, subst, ◌≡◌, ◌∙◌, List, [], ◌∷◌, ◌++◌, inst_fn, Args, Fn, a_type, dnil, dcons, Val, vstruct, of_list, full_share, ftrue, fsep, flft, SProp, ent, emp, never, id⊢, fst∗, WpFn, ◌⊑◌, ⊑_static, fact, fact_i, tables, sem, ‵, raw, ◌⊛◌, some, later, ◌$◌, ◌∵◌, !, qed, by, keep, move, drop, split, split3, join, fsplit, fjoin, fpick, pick, suffices, use0, use1, await, rewrite, feq_l, stop, fld, of_opd, no_more, and_then, returns, enter, alloc_all, pass_all, free_all, look_at, get, get_in, sets, lands_as, agg, sub, whole, no, owns, RattleType, RawPtr, param, layout, bounded, Ptr, block_ptr, null_ptr, ptr_val, in_a_block, types_at, plain, nothing, only, heard, Tuple, triple_of, calls_at, Stays, stay_dropped, walk_of, Goes-blank, handle_tells, fm, proved_at, leaves, box_owns, box_out, box_in, ghosts, dict, Global}
 use mir.Raw.{raw as bare}
 use denote.Param.NoDrop as no_drop
 use Rattle.std_alloc.proofs.BoxSteps.Form as box
@@ -38,7 +38,7 @@ of_spec {M} 𝓤 𝓛 𝓜 𝓡 wired T L dx glue =
     (no_drop.glues "range_map_c::Destruct++none::drop" 𝓡.env (code.calls-range_map_c::Destruct++none::drop 𝓡.env wired) A heap.laws M 𝓤 𝓛 𝓜 𝓡) glue) y (and_then ! (get ! refl) (no_more !)) (λ u.
     use1 𝓛 (later (some (λ (r : Ptr × Global). ((‵ (flft κ q) ⊛ ‵ (flft [] full_share) ⊛ ‵ ftrue) ⊛ ‵ ((Tuple (RawPtr ∷ A ∷ [])).own_val r (u ∷ []))) ⊛ some (λ (_ : (Unit {0} × (Unit {0} × Unit {0})) × Unit {0}). ‵ (fsep (fsep ftrue (fsep ftrue ftrue)) ftrue) ⊛ (raw (fact 𝓤 (r.1 ≡ a)) ⊛ ‵ (box_owns (ghosts.dealloc_token a) R r.0 v.value)))))) (id⊢ 𝓤 _) $
     await ! tt $ pick ! (λ r. split ! $ move ! (1 ∷ []) $ pick ! (λ _. split3 ! $ drop ! $ heard ! (r.1 ≡ a) (λ ea.
-    in_a_block ! r.0 (λ p. box_owns (ghosts.dealloc_token a) R p v.value) (fst∗ 𝓤 (never_equal 𝓤) (sem 𝓛 (ghosts.dealloc_token a (bare (layout T)) null_ptr))) (λ b' o' e'.
+    in_a_block ! r.0 (λ p. box_owns (ghosts.dealloc_token a) R p v.value) (fst∗ 𝓤 (never 𝓤) (sem 𝓛 (ghosts.dealloc_token a (bare (layout T)) null_ptr))) (λ b' o' e'.
     move ! (1 ∷ []) $ split ! $ split3 ! $ move ! (1 ∷ []) $ drop ! $ move ! (2 ∷ []) $
     -- [the pair; the token of κ; true; what the box owned]
     fpick ! (λ vss. fsplit ! $ feq_l ! (λ eu. fsplit ! $ feq_l ! (λ ep. fsplit ! $ rewrite ! 0 (λ (s : Global). ‵ (A.own_val s vss.1.0)) ea refl $ handle_tells heap ! a vss.1.0 (λ h' eh fits'.
