@@ -23,7 +23,8 @@ fn pair(alloc: Global) -> Result<[WordMap; 2], AllocError> {
 
 /// Returns three maps that share a key.
 fn three(alloc: Global) -> Result<Vec<WordMap>, AllocError> {
-    let [a, b] = pair(alloc)?;
+    let a = map_of(alloc, &table_of(alloc, &[(1, 5, "a")])?)?;
+    let b = map_of(alloc, &table_of(alloc, &[(4, 8, "b")])?)?;
     let c = map_of(alloc, &table_of(alloc, &[(5, 6, "c")])?)?;
     Ok(Vec::from_array(alloc, [a, b, c])?)
 }
