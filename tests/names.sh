@@ -101,7 +101,7 @@ has_no_other tests/refusals.txt "$swept" "$words"$'\n'"$(sed 's/^/into_/' <<<"$w
 by_lines="$(sed -E 's/^many_//; s/^\|$/bitor/; s/^&$/bitand/; s/^-$/sub/; s/^\^$/bitxor/; s/^!$/not/; s/^==$/eq/; s/^list$/fmt/; s/^hashes_as$/hash/' <<<"$swept")"
 made="$(grep -rhoE '[.:][a-z_0-9]+' crates/script/src crates/check_*/src | tr -d '.:')"
 are_in "$map" "$made"$'\n'"$by_lines" "no program of the gate calls NAME"
-refused="$(sed -E 's/^[?] //; s/^[A-Z][A-Za-z]*:://; s/^([a-z_]*).*/\1/' tests/refused_calls.txt)"
+refused="$(sed -E 's/^[?][0-9]* //; s/^[A-Z][A-Za-z]*:://; s/^([a-z_]*).*/\1/' tests/refused_calls.txt)"
 are_in "$(calls_of '(Into)?RangeMapBlaze' fallible range_map_blaze && calls_of 'Multiway[A-Za-z]*' fallible range_map_multi)" "$by_lines"$'\n'"$refused" \
     "neither tests/refusals.txt nor tests/refused_calls.txt has NAME"
 fallible="$(calls_of '' fallible "${libraries[@]}")"

@@ -5,8 +5,8 @@
 # tests/refused_calls.txt, and all other lines must stay.
 #
 # That file has a line for each call, in their order. '-' is a call that must make no request. '? ' begins the line of a call that builds a
-# tree in one go, which may do without one of its requests: std's `collect` asks for the room that the iterator's hint names, and if that
-# fails, for the room of one item. The last line is 'N passed, M failed'.
+# tree in one go, and '?4 ' that of a call that builds four. Each such tree may do without one of its requests: std's `collect` asks for
+# the room that the iterator's hint names, and if that fails, for the room of one item. The last line is 'N passed, M failed'.
 #
 # REFUSED_CALLS_PROGRAM names the program; without it the one that the gate built is taken.
 set -euo pipefail
@@ -45,10 +45,12 @@ for ((nth = 1, all = requests; nth <= all; nth++)); do
     run "$nth"
     wanted=("${made[@]}" "status 0")
     place=$((call - 1))
-    if [[ "${kept[place]}" = '? '* ]] && [ "${got[place]}" = "${made[place]}" ] && [ "${spared[place]}" = 0 ]; then
-        spared[place]=1
+    trees=0 line="${kept[place]}"
+    if [[ "$line" =~ ^\?([0-9]*)\ (.*) ]]; then trees="${BASH_REMATCH[1]:-1}" line="${BASH_REMATCH[2]}"; fi
+    if [ "${got[place]}" = "${made[place]}" ] && [ "${spared[place]}" -lt "$trees" ]; then
+        spared[place]=$((spared[place] + 1))
     else
-        wanted[place]="${kept[place]#'? '}"
+        wanted[place]="$line"
         refusals[place]=$((refusals[place] + 1))
     fi
     judge_lines "request $nth of $all refused"
