@@ -25,11 +25,11 @@ show() { # names
 # The function of a line: `code` is the line without its comment. One more function makes the values that the page lists, and passes
 # them.
 task() {
-    local names pattern lent='' lent_numbers=''
-    if [[ "$code" =~ $changing ]]; then lent='mut '; fi
-    if [[ "$code" = *'ours.ranges_update('* ]]; then lent_numbers='mut '; fi
+    local names pattern map_mut='' numbers_mut=''
+    if [[ "$code" =~ $changing ]]; then map_mut='mut '; fi
+    if [[ "$code" = *'ours.ranges_update('* ]]; then numbers_mut='mut '; fi
     echo "#[allow(unused_variables)]"
-    echo "fn task_$number(rt: &HostRuntime, map: &${lent}Map, other: &Map, capitals: Map, above: Map, shifted: &mut Map, ours: &${lent_numbers}Numbers, theirs: &Numbers, keys: RangeSetBlaze<i32>, range: RangeInclusive<i32>, count: &mut u64, alloc: Global) -> Result<(), AllocError> {"
+    echo "fn task_$number(rt: &HostRuntime, map: &${map_mut}Map, other: &Map, capitals: Map, above: Map, shifted: &mut Map, ours: &${numbers_mut}Numbers, theirs: &Numbers, keys: RangeSetBlaze<i32>, range: RangeInclusive<i32>, count: &mut u64, alloc: Global) -> Result<(), AllocError> {"
     case "$code" in
         'let _ = '* | 'map.'*';') echo "    $code" && show map ;;
         'ours.'*';') echo "    $code" && show ours ;;
@@ -55,7 +55,7 @@ task() {
     echo "fn with_values_$number(rt: &HostRuntime) -> Result<(), AllocError> {"
     echo "    let alloc = rt.alloc();"
     sed -n '/^```rust values$/,/^```$/{/^```/d; s/^/    /p}' docs/TASKS.md
-    echo "    task_$number(rt, &${lent}map, &other, capitals, above, &mut shifted, &${lent_numbers}ours, &theirs, keys, range, &mut count, alloc)"
+    echo "    task_$number(rt, &${map_mut}map, &other, capitals, above, &mut shifted, &${numbers_mut}ours, &theirs, keys, range, &mut count, alloc)"
     echo '}'
 }
 

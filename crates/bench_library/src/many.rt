@@ -16,11 +16,11 @@ fn maps_of(alloc: Global, count: u64) -> Result<Vec<Map>, AllocError> {
 
 /// Returns the union of borrowed maps.
 fn union_of(alloc: Global, maps: &[Map]) -> Result<Map, AllocError> {
-    let mut lent = Vec::new(alloc);
+    let mut borrowed = Vec::new(alloc);
     for map in maps {
-        lent.push(map)?;
+        borrowed.push(map)?;
     }
-    lent.union(alloc)
+    borrowed.union(alloc)
 }
 
 /// Builds the union of `size` borrowed maps, repeatedly.

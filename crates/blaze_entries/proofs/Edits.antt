@@ -1,5 +1,5 @@
 -- The results of std's calls on full nodes, as results on the entries.
-use Rattle.blaze_entries.proofs.Words.{◌≡◌, ℤ, pos, ◌+ℤ◌, List, [], ◌∷◌, ◌++◌, Option, Some, None, refl, ◌∙◌, sym, ap, map, MatchOption, IfSome, option_map, last_or, int_cmp, on, Less, Equal, Greater, remove_entry, insert_entry, is_at, entries_between, entries_below, entries_from, Included, Excluded, Unbounded, Bor, changed, Entry, entry, full_node, shown_nodes, shown_node_at, shown_lent_node, entries_of, AreHeld, below, from, up_to, with_entry, without, with_end, with_end_value, with_last_end, EndValue}
+use Rattle.blaze_entries.proofs.Words.{◌≡◌, ℤ, pos, ◌+ℤ◌, List, [], ◌∷◌, ◌++◌, Option, Some, None, refl, ◌∙◌, sym, ap, map, MatchOption, IfSome, option_map, last_or, int_cmp, on, Less, Equal, Greater, remove_entry, insert_entry, is_at, entries_between, entries_below, entries_from, Included, Excluded, Unbounded, Bor, changed, Entry, entry, full_node, shown_nodes, shown_node_at, shown_borrowed_node, entries_of, AreHeld, below, from, up_to, with_entry, without, with_end, with_end_value, with_last_end, EndValue}
 use Rattle.blaze_entries.proofs.Ascending.{by_order}
 use Rattle.blaze_entries.proofs.Held.{edited_nodes, nodes_ascend, with_entry-held, without-held, with_end-held, with_end_value-held, with_last_end-held, below-held, from-held, up_to-held}
 use Rattle.blaze_entries.proofs.NodeLists.{as_entries_insert, as_entries_remove, as_entries_end, as_entries_set, as_entries_below, as_entries_from, as_entries_between, as_entries_at_or_above, as_entries_from_up_to, as_entries_all, last_of_append}
@@ -58,10 +58,10 @@ last_yielded view s t None h = rw h.0 refl
 last_yielded view s t (Some x) h = rw h (sym (last_of_append None t (view x)))
 
 -- a node that a lookup by its key returned
-pub lent_at : {T V : Type 0} (rank : T → ℤ) (k : T) (r : Option (Bor T × Bor (EndValue T V))) (o : Option (EndValue T V))
-    → option_map (λ p. p.1.now) r ≡ o → IfSome r (λ p. on rank int_cmp k p.0.now ≡ Equal) → option_map (shown_lent_node rank) r ≡ option_map (shown_node_at rank k) o
-lent_at rank k None o q e = ap (option_map (shown_node_at rank k)) q
-lent_at rank k (Some p) o q e =
+pub borrowed_at : {T V : Type 0} (rank : T → ℤ) (k : T) (r : Option (Bor T × Bor (EndValue T V))) (o : Option (EndValue T V))
+    → option_map (λ p. p.1.now) r ≡ o → IfSome r (λ p. on rank int_cmp k p.0.now ≡ Equal) → option_map (shown_borrowed_node rank) r ≡ option_map (shown_node_at rank k) o
+borrowed_at rank k None o q e = ap (option_map (shown_node_at rank k)) q
+borrowed_at rank k (Some p) o q e =
     let same : rank p.0.now ≡ rank k = equal_says (rank k) (rank p.0.now) e in
     ap (λ z. Some (entry z (rank p.1.now.end) p.1.now.value)) same ∙ ap (option_map (shown_node_at rank k)) q
   where

@@ -3,7 +3,7 @@ pub mod Ascending
 pub mod Changes
 pub mod Halves
 pub mod Held
-pub mod Lent
+pub mod Borrowed
 pub mod Moves
 pub mod NodeLists
 pub mod Views

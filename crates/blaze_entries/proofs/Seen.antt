@@ -27,7 +27,7 @@ module _ {V : Type 0} (test : V → Bool) (l h high : ℤ) (w : l ≤ℤ h) wher
   none_seen b es u s = record {
     end = sym (ap (λ x. end_of h (shown (last_or None x))) (below_none (h +ℤ pos 2) b high es u s));
     tail = sym (ap (λ x. tail_of h (shown (last_or None x))) (below_none (h +ℤ pos 1) b high es (omega (arith, ints)) s));
-    first = sym (ap shown (start_none l b high es (omega (arith, ints)) s));
+    at_start = sym (ap shown (start_none l b high es (omega (arith, ints)) s));
     predecessor = sym (ap (λ x. shown (last_or None x)) (below_none l b high es (omega (arith, ints)) s));
     removed_count = sym (ap (λ x. length (from (l +ℤ pos 1) x)) (below_none (h +ℤ pos 1) b high es (omega (arith, ints)) s));
   }
@@ -40,9 +40,9 @@ module _ {V : Type 0} (test : V → Bool) (l h high : ℤ) (w : l ≤ℤ h) wher
       let tail = i.tail ∙ sym n.tail in
       let removed_count = i.removed_count ∙ ap (λ z. length (inner_entries l z es)) end ∙ sym n.removed_count in
       let none = ap (moved_count l) tail in
-      sym (same end tail (i.first ∙ sym n.first) (i.predecessor ∙ sym n.predecessor) (omega (arith, removed_count, none)))
+      sym (same end tail (i.at_start ∙ sym n.at_start) (i.predecessor ∙ sym n.predecessor) (omega (arith, removed_count, none)))
     where
-      same : {a : ℤ} {b : Option (ℤ × ℤ)} {c d : Option (ℤ × ℤ × Bool)} {e : ℕ} → a ≡ h → b ≡ None → c ≡ None → d ≡ None → e ≡ 0 → unseen h ≡ record { end = a; tail = b; first = c; predecessor = d; removed_count = e }
+      same : {a : ℤ} {b : Option (ℤ × ℤ)} {c d : Option (ℤ × ℤ × Bool)} {e : ℕ} → a ≡ h → b ≡ None → c ≡ None → d ≡ None → e ≡ 0 → unseen h ≡ record { end = a; tail = b; at_start = c; predecessor = d; removed_count = e }
       same p q r s t = cc
 
   abbrev gone_of : Bool → Seen → Seen
@@ -70,19 +70,19 @@ module _ {V : Type 0} (test : V → Bool) (l h high : ℤ) (w : l ≤ℤ h) wher
 
   -- an entry below the others, which all start at l or above, once its end is in the plan
   start_seen : (e : Entry V) (es : List (Entry V)) → below l es ≡ [] → (p q : Seen) → seen_end h p (found_in test e) ≡ q → q.end ≡ end_of h (shown (last_below (h +ℤ pos 2) (e ∷ es))) → q.tail ≡ tail_of h (shown (last_below (h +ℤ pos 1) (e ∷ es)))
-      → q.first ≡ shown (start_at l es) → q.predecessor ≡ None → IsGone q (e ∷ es) e → IsSeenIn test l h (e ∷ es) (seen l h p (found_in test e))
-  start_seen e es under p q is end tail first predecessor removed_count = subst (λ x. IsSeenIn test l h (e ∷ es) (seen_start l h x (found_in test e))) (sym is) (by_order l e.lo
+      → q.at_start ≡ shown (start_at l es) → q.predecessor ≡ None → IsGone q (e ∷ es) e → IsSeenIn test l h (e ∷ es) (seen l h p (found_in test e))
+  start_seen e es under p q is end tail at_start predecessor removed_count = subst (λ x. IsSeenIn test l h (e ∷ es) (seen_start l h x (found_in test e))) (sym is) (by_order l e.lo
       (λ o c t. rw (lt_false e.lo l (omega (arith, ints)), le_false e.lo l o) (inside o t))
-      (λ o c t. rw (lt_false e.lo l (omega (arith, ints)), le_true e.lo l (omega (arith, ints))) (record { end = end; tail = tail; first = rw t refl; predecessor = predecessor ∙ sym (over (omega (arith, ints))); removed_count = removed_count.under (omega (arith, ints)) }))
-      (λ o c t. rw (lt_true e.lo l o) (record { end = end; tail = tail; first = rw t first; predecessor = sym (ap (λ x. shown (last_or None x)) (below_takes l e es o ∙ ap (λ x. e ∷ x) under)); removed_count = removed_count.under (omega (arith, ints)) })))
+      (λ o c t. rw (lt_false e.lo l (omega (arith, ints)), le_true e.lo l (omega (arith, ints))) (record { end = end; tail = tail; at_start = rw t refl; predecessor = predecessor ∙ sym (over (omega (arith, ints))); removed_count = removed_count.under (omega (arith, ints)) }))
+      (λ o c t. rw (lt_true e.lo l o) (record { end = end; tail = tail; at_start = rw t at_start; predecessor = sym (ap (λ x. shown (last_or None x)) (below_takes l e es o ∙ ap (λ x. e ∷ x) under)); removed_count = removed_count.under (omega (arith, ints)) })))
     where
       over : l ≤ℤ e.lo → shown (last_below l (e ∷ es)) ≡ None
       over u = ap (λ x. shown (last_or None x)) (below_skips l e es u ∙ under)
 
       inside : l <ℤ e.lo → int_eq l e.lo ≡ false → IsSeenIn test l h (e ∷ es) (seen_within h q (found_in test e))
       inside o t = elim (test e.value || int_le e.hi h) as (λ b. (gone_of b q).removed_count + moved_count l q.tail ≡ length (inner_entries l q.end (e ∷ es)) → IsSeenIn test l h (e ∷ es) (gone_of b q)) [
-        | true ↦ λ u. record { end = end; tail = tail; first = rw t first; predecessor = predecessor ∙ sym (over (omega (arith, ints))); removed_count = u }
-        | false ↦ λ u. record { end = end; tail = tail; first = rw t first; predecessor = predecessor ∙ sym (over (omega (arith, ints))); removed_count = u }
+        | true ↦ λ u. record { end = end; tail = tail; at_start = rw t at_start; predecessor = predecessor ∙ sym (over (omega (arith, ints))); removed_count = u }
+        | false ↦ λ u. record { end = end; tail = tail; at_start = rw t at_start; predecessor = predecessor ∙ sym (over (omega (arith, ints))); removed_count = u }
       ] (removed_count.over o)
 
   module _ (e : Entry V) (es : List (Entry V)) (near : e.lo ≤ℤ (h +ℤ pos 1)) (under : below l es ≡ []) where
@@ -139,7 +139,7 @@ module _ {V : Type 0} (test : V → Bool) (l h high : ℤ) (w : l ≤ℤ h) wher
         start_seen e es under q q (rw (lt_false h e.hi u) refl)
         (i.end ∙ last (end_of h) (rw (lt_false h e.hi u) refl) (below (h +ℤ pos 2) es) ∙ sym (ap (λ x. end_of h (shown (last_or None x))) (below_takes (h +ℤ pos 2) e es (omega (arith, ints)))))
         (i.tail ∙ last (tail_of h) (rw (lt_false h e.hi u) refl) (below (h +ℤ pos 1) es) ∙ sym (ap (λ x. tail_of h (shown (last_or None x))) (below_takes (h +ℤ pos 1) e es (omega (arith, ints)))))
-        i.first
+        i.at_start
         (i.predecessor ∙ ap (λ x. shown (last_or None x)) under)
         (record {
           under = λ v. i.removed_count ∙ sym (inner_low q.end e es v);
@@ -175,7 +175,7 @@ module _ {V : Type 0} (test : V → Bool) (l h high : ℤ) (w : l ≤ℤ h) wher
   past_seen xs e es s v q i = record {
     end = i.end ∙ ap (λ o. end_of h (shown o)) (sym (last_past (h +ℤ pos 2) xs e es (omega (arith, ints))));
     tail = i.tail ∙ ap (λ o. tail_of h (shown o)) (sym (last_past (h +ℤ pos 1) xs e es (omega (arith, ints))));
-    first = i.first ∙ ap shown (sym (start_past xs s));
+    at_start = i.at_start ∙ ap shown (sym (start_past xs s));
     predecessor = i.predecessor ∙ ap shown (sym (last_past l xs e es v));
     removed_count = i.removed_count ∙ sym (inner_past xs s);
   }

@@ -2,7 +2,7 @@
 use Rattle.blaze_entries.proofs.Words.{◌≡◌, ◌+◌, ◌<◌, length, ℤ, pos, ◌+ℤ◌, List, [], ◌∷◌, ◌++◌, Option, Some, None, refl, ◌∙◌, sym, subst, ap, arith, length-append, map, IsSome, IfSome, IfNone, MatchOption, ◌↔◌, MakesProgress, item_count, TakesFirst, TakesLast, option_map, ints, Entry, full_node, full, shown_node, shown_nodes, entries_of, AreFull, AreHeld, StartsAscend, EndValue}
 use Rattle.blaze_entries.proofs.Ascending.{start_front, start_lower}
 use Rattle.blaze_entries.proofs.Held.{full-held}
-use Rattle.blaze_entries.proofs.Lent.{no_value}
+use Rattle.blaze_entries.proofs.Borrowed.{no_value}
 
 -- the calls on a list, as calls on what the list represents
 takes_first_shown : {A X Y : Type 0} (f : X → Y) (shows : A → X) (s : List X) (r : Option A) (t : List X) → TakesFirst shows s r t → TakesFirst (λ x. f (shows x)) (map f s) r (map f t)

@@ -34,7 +34,7 @@ pub use Rattle.blaze_entries.specs.Counted.{CountedEntries, uncounted}
 pub use Rattle.blaze_entries.specs.Entries.{Entry, entry, shown_entry, at, SameOption}
 pub use Rattle.blaze_entries.specs.Found.{found_in, shown_found, IsFoundAt, is_sought}
 pub use Rattle.blaze_entries.specs.NodeAnswers.{AnswersAtNode, TakesNode}
-pub use Rattle.blaze_entries.specs.Nodes.{shown_nodes, shown_node_at, full_node, node_of, shown_node, full, AreHeld, AreFull, shown_lent_node, entries_of, node_before}
+pub use Rattle.blaze_entries.specs.Nodes.{shown_nodes, shown_node_at, full_node, node_of, shown_node, full, AreHeld, AreFull, shown_borrowed_node, entries_of, node_before}
 pub use Rattle.blaze_entries.specs.Overlap.{shared_count, overlap, covered_keys}
 pub use Rattle.blaze_entries.specs.Starts.{StartsAscend, start_at, with_entry, without, with_end_value, IsStartMoved, IsFrontReplaced, below, from, last_below, up_to, first_entry, first_from, with_end, with_last_end, entry_reaching, holder_of, IsCloneInserted}
 pub use Rattle.blaze_entries.specs.Walked.{RangesAscend, Seen, end_of, tail_of, inner_entries, moved_count, IsSeenIn, unseen, seen, seen_end, seen_start, seen_within, seen_value, IsClonedIf, shown_plan, IsWalk}

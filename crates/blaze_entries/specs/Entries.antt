@@ -29,8 +29,8 @@ abbrev pub shown_list : {T V : Type 0} → (T → ℤ) → List (T × T × V) �
 shown_list rank entries = map (shown_entry rank (λ v. v)) entries
 
 -- the result of a lookup, with a borrowed value, as an entry
-abbrev pub shown_lent : {T V : Type 0} → (T → ℤ) → Option (T × T × Bor V) → Option (Entry V)
-shown_lent rank found = option_map (shown_entry rank (λ v. v.now)) found
+abbrev pub shown_borrowed : {T V : Type 0} → (T → ℤ) → Option (T × T × Bor V) → Option (Entry V)
+shown_borrowed rank found = option_map (shown_entry rank (λ v. v.now)) found
 
 -- an entry that one function passes to another
 abbrev pub shown_range_entry : {T R V : Type 0} → (T → ℤ) → (R → V) → RangeEntry T R → Entry V

@@ -19,8 +19,8 @@ abbrev pub shown_nodes : {T V : Type 0} → (T → ℤ) → List (T × EndValue 
 shown_nodes rank nodes = map (shown_node rank) nodes
 
 -- a borrowed start with its borrowed node, as an entry
-abbrev pub shown_lent_node : {T V : Type 0} → (T → ℤ) → Bor T × Bor (EndValue T V) → Entry V
-shown_lent_node rank p = shown_node rank (deref_pair p)
+abbrev pub shown_borrowed_node : {T V : Type 0} → (T → ℤ) → Bor T × Bor (EndValue T V) → Entry V
+shown_borrowed_node rank p = shown_node rank (deref_pair p)
 
 -- the node at a start, as an entry
 abbrev pub shown_node_at : {T V : Type 0} → (T → ℤ) → T → EndValue T V → Entry V

@@ -25,12 +25,12 @@ RangesAscend low high (e ∷ es) = (low ≤ℤ e.lo) × (e.lo ≤ℤ e.hi) × (e
 pub record Seen : Type 0 where
   pub end : ℤ
   pub tail : Option (ℤ × ℤ)
-  pub first : Option (ℤ × ℤ × Bool)
+  pub at_start : Option (ℤ × ℤ × Bool)
   pub predecessor : Option (ℤ × ℤ × Bool)
   pub removed_count : ℕ
 
 abbrev pub shown_plan : {T : Type 0} → (T → ℤ) → Plan T → Seen
-shown_plan rank p = record { end = rank p.end; tail = option_map (shown_ends rank) p.tail; first = option_map (shown_found rank) p.first; predecessor = option_map (shown_found rank) p.predecessor; removed_count = p.removed_count }
+shown_plan rank p = record { end = rank p.end; tail = option_map (shown_ends rank) p.tail; at_start = option_map (shown_found rank) p.at_start; predecessor = option_map (shown_found rank) p.predecessor; removed_count = p.removed_count }
 
 -- The end of a range that ends at h, joined with the visited entry that starts up to the key above h. It is the entry's
 -- end if the entry extends above h with an equal value, else h.
@@ -56,7 +56,7 @@ moved_count l (Some r) = if int_lt l r.0 then 1 else 0
 pub record IsSeenIn {V : Type 0} (test : V → Bool) (l h : ℤ) (es : List (Entry V)) (s : Seen) : Type 0 where
   pub end : s.end ≡ end_of h (option_map (found_in test) (last_below (h +ℤ pos 2) es))
   pub tail : s.tail ≡ tail_of h (option_map (found_in test) (last_below (h +ℤ pos 1) es))
-  pub first : s.first ≡ option_map (found_in test) (start_at l es)
+  pub at_start : s.at_start ≡ option_map (found_in test) (start_at l es)
   pub predecessor : s.predecessor ≡ option_map (found_in test) (last_below l es)
   pub removed_count : s.removed_count + moved_count l s.tail ≡ length (inner_entries l s.end es)
 
@@ -64,7 +64,7 @@ pub record IsSeenIn {V : Type 0} (test : V → Bool) (l h : ℤ) (es : List (Ent
 
 -- the plan for a range that ends at h, before the first entry
 abbrev pub unseen : ℤ → Seen
-unseen h = record { end = h; tail = None; first = None; predecessor = None; removed_count = 0 }
+unseen h = record { end = h; tail = None; at_start = None; predecessor = None; removed_count = 0 }
 
 -- the plan with an entry that extends above h: it gets the entry's end if its value is equal, else the part above h
 abbrev pub seen_end : ℤ → Seen → ℤ × ℤ × Bool → Seen
@@ -77,7 +77,7 @@ seen_within h s t = if t.2 || int_le t.1 h then record s { removed_count = s.rem
 
 -- the plan with an entry that starts below l, at l or above l
 abbrev pub seen_start : ℤ → ℤ → Seen → ℤ × ℤ × Bool → Seen
-seen_start l h s t = if int_lt t.0 l then record s { predecessor = Some t } else (if int_le t.0 l then record s { first = Some t } else seen_within h s t)
+seen_start l h s t = if int_lt t.0 l then record s { predecessor = Some t } else (if int_le t.0 l then record s { at_start = Some t } else seen_within h s t)
 
 abbrev pub seen : ℤ → ℤ → Seen → ℤ × ℤ × Bool → Seen
 seen l h s t = seen_start l h (seen_end h s t) t
@@ -110,8 +110,8 @@ IsClonedIf is_clone wanted o r = MatchOption (if wanted then o else None) (r ≡
 pub record IsWalk {V : Type 0} (is_clone : V → V → Type 0) (test : V → Bool) (wanted : Bool) (l h : ℤ) (len : ℕ) (es : List (Entry V)) (s : Seen) (count : ℕ) (up here : Option V) : Type 0 where
   pub plan : IsSeenIn test l h es s
   pub keys_outside : pos count +ℤ covered_keys l h es ≡ pos len
-  pub above : IsAboveCloned is_clone test l h es up
-  pub value : IsClonedIf is_clone wanted (at es l) here
+  pub tail_value : IsAboveCloned is_clone test l h es up
+  pub old_value : IsClonedIf is_clone wanted (at es l) here
 
 -- Only lookups were counted, for a walk to the keys from l to h. They are at most one for each entry that starts from l
 -- to the key above h, one for the entry below them, and `more`.

@@ -2,7 +2,7 @@
 ghost use Rattle.std.specs.Prelude.{◌≡◌, Option, Some, IfSome, IsSome};
 ghost use Rattle.std.specs.Option.{option_map};
 ghost use Rattle.blaze_entries.specs.Entries.{Entry, shown_entry};
-ghost use Rattle.blaze_entries.specs.Nodes.{full_node, shown_lent_node, shown_node};
+ghost use Rattle.blaze_entries.specs.Nodes.{full_node, shown_borrowed_node, shown_node};
 
 use crate::start::Start;
 use blaze_int::Integer;
@@ -35,7 +35,7 @@ pub fn shown<'a, T: Integer, V>(
     node: Option<(&'a Start<T>, &'a EndValue<T, Option<V>>)>,
 ) -> Option<(T, T, &'a V)>
     requires { IfSome node (λ p. IsSome p.1.now.value) }
-    ensures { (e : Option (Entry V)) → option_map (shown_lent_node T.rank) node.entry
+    ensures { (e : Option (Entry V)) → option_map (shown_borrowed_node T.rank) node.entry
         ≡ option_map full_node e → option_map (shown_entry T.rank (λ v. v.now)) result ≡ e }
 {
     let (start, node) = node?;

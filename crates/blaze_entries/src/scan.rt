@@ -26,7 +26,7 @@ pub struct Plan<T> {
     /// The first and last key of the entry that keeps its keys above the range.
     pub tail: Option<RangeEntry<T, ()>>,
     /// The entry that starts at the range's first key.
-    pub first: Option<RangeEntry<T, bool>>,
+    pub at_start: Option<RangeEntry<T, bool>>,
     /// The entry with the greatest start below the range.
     pub predecessor: Option<RangeEntry<T, bool>>,
     /// The number of entries that start above the range's first key and end within the joined range.
@@ -41,7 +41,7 @@ impl<T: Integer> Plan<T> {
         Plan {
             end: hi,
             tail: None,
-            first: None,
+            at_start: None,
             predecessor: None,
             removed_count: 0,
         }
@@ -76,7 +76,7 @@ impl<T: Integer> Plan<T> {
         if is_below(found.start, lo) {
             self.predecessor = Some(found);
         } else if is_at_most(found.start, lo) {
-            self.first = Some(found);
+            self.at_start = Some(found);
         } else if found.value || is_at_most(found.end, hi) {
             self.removed_count += 1;
         }
@@ -170,15 +170,15 @@ pub fn next_or_last<T: Integer>(key: T) -> T
 }
 
 /// The result of a walk down the entries, for an edit of the keys of a range. `keys_outside` is the given length less the
-/// number of keys that the range shares with the entries. `above` is a clone of the value of the entry that extends
-/// both below and above the range. `value` is a clone of the value of the range's first key. Each clone is `None`
+/// number of keys that the range shares with the entries. `tail_value` is a clone of the value of the entry that extends
+/// both below and above the range. `old_value` is a clone of the value of the range's first key. Each clone is `None`
 /// unless it was needed.
 #[derive(Drop)]
 pub struct Walk<T: Integer, V> {
     pub plan: Plan<T>,
     pub keys_outside: T::SafeLen,
-    pub above: Option<V>,
-    pub value: Option<V>,
+    pub tail_value: Option<V>,
+    pub old_value: Option<V>,
 }
 
 /// Visits the entries from the one that may start right above a range down to the first that starts below it. It
@@ -230,7 +230,7 @@ pub fn look_down<'a, T: Integer, V: Eq>(
 
 /// Clones the value of the range's first key if the entry `predecessor`, which starts below the range, extends above it with
 /// an unequal value. In that case the key belongs to the entry.
-pub fn above_cloned<T: Integer, V: Clone>(
+pub fn tail_value_cloned<T: Integer, V: Clone>(
     predecessor: Option<RangeEntry<T, bool>>,
     hi: T,
     held: Option<&V>,
@@ -242,8 +242,8 @@ pub fn above_cloned<T: Integer, V: Clone>(
 {
     match predecessor {
         Some(found) if !found.value && is_below(hi, found.end) => {
-            let above = held.cloned()?;
-            Ok(above)
+            let tail_value = held.cloned()?;
+            Ok(tail_value)
         }
         _ => Ok(None),
     }

@@ -1,7 +1,7 @@
 //! Entries in a tree ordered by their starts: lookups and iterators. The submodules have the edits.
 ghost use Rattle.std.specs.Prelude.{◌≡◌, ◌-◌, ◌<◌, ◌^◌, [], pos, ◌+ℤ◌, ◌≤ℤ◌, length, slice_get, IfOk};
 ghost use Rattle.blaze_entries.specs.Cloned.{AreCloned};
-ghost use Rattle.blaze_entries.specs.Entries.{shown_lent};
+ghost use Rattle.blaze_entries.specs.Entries.{shown_borrowed};
 ghost use Rattle.blaze_entries.specs.Starts.{StartsAscend, below, from, up_to, last_below, first_from, start_at};
 
 mod build;
@@ -69,7 +69,7 @@ impl<T: Integer, V> Tree<T, V> {
     /// Returns the first entry as (first key, last key, value). O(log n) with n entries, without comparing keys in the
     /// tree.
     pub fn first(&self) -> Option<(T, T, &V)>
-        ensures { shown_lent T.rank result ≡ slice_get self.now 0 }
+        ensures { shown_borrowed T.rank result ≡ slice_get self.now 0 }
     {
         shown(self.nodes.first_key_value())
     }
@@ -77,35 +77,35 @@ impl<T: Integer, V> Tree<T, V> {
     /// Returns the last entry as (first key, last key, value). O(log n) with n entries, without comparing keys in the
     /// tree.
     pub fn last(&self) -> Option<(T, T, &V)>
-        ensures { shown_lent T.rank result ≡ slice_get self.now (length self.now - 1) }
+        ensures { shown_borrowed T.rank result ≡ slice_get self.now (length self.now - 1) }
     {
         shown(self.nodes.last_key_value())
     }
 
     /// Returns the entry that starts at `start` as (first key, last key, value). O(log n) with n entries.
     pub fn at(&self, start: T) -> Option<(T, T, &V)>
-        ensures { shown_lent T.rank result ≡ start_at (T.rank start) self.now }
+        ensures { shown_borrowed T.rank result ≡ start_at (T.rank start) self.now }
     {
         shown(self.nodes.get_key_value(&Start(start)))
     }
 
     /// Returns the entry with the greatest start below `key` as (first key, last key, value). O(log n) with n entries.
     pub fn below(&self, key: T) -> Option<(T, T, &V)>
-        ensures { shown_lent T.rank result ≡ last_below (T.rank key) self.now }
+        ensures { shown_borrowed T.rank result ≡ last_below (T.rank key) self.now }
     {
         self.iter_below(key).next_back()
     }
 
     /// Returns the entry with the greatest start up to `key` as (first key, last key, value). O(log n) with n entries.
     pub fn at_or_below(&self, key: T) -> Option<(T, T, &V)>
-        ensures { shown_lent T.rank result ≡ last_below (T.rank key +ℤ pos 1) self.now }
+        ensures { shown_borrowed T.rank result ≡ last_below (T.rank key +ℤ pos 1) self.now }
     {
         self.iter_up_to(key).next_back()
     }
 
     /// Returns the entry with the least start from `key` on as (first key, last key, value). O(log n) with n entries.
     pub fn at_or_above(&self, key: T) -> Option<(T, T, &V)>
-        ensures { shown_lent T.rank result ≡ first_from (T.rank key) self.now }
+        ensures { shown_borrowed T.rank result ≡ first_from (T.rank key) self.now }
     {
         self.iter_from(key).next()
     }

@@ -1,5 +1,5 @@
 -- The segments so far, and one more.
-use Rattle.blaze_streams.proofs.Words.{◌≡◌, ℕ, ◌<◌, ℤ, pos, ◌+ℤ◌, ◌≤ℤ◌, ◌<ℤ◌, Bool, true, false, cond, nat_eq, List, [], ◌∷◌, ◌++◌, Option, Some, None, refl, ◌∙◌, sym, ap, arith, ⊎_elim, option_eq, is_some, option_or, list_any, IsEquivalence, first_so, second_so, nat_eq_equiv, lists_equiv, options_equiv, false_from_ne_true, ints, same_along, or_none, or_assoc, Entry, at, SameOption, IsCanonical, IsBelow, at_in, at_under, at_over, by_place, at_append, one_per_run, IsBelow-push, below_more, Segment, row, present, row_eq, shown_segment, shown_segments, IsSegmentsOf, AllCanonical, first_keys, all_after, IsNextSegment}
+use Rattle.blaze_streams.proofs.Words.{◌≡◌, ℕ, ◌<◌, ℤ, pos, ◌+ℤ◌, ◌≤ℤ◌, ◌<ℤ◌, Bool, true, false, cond, nat_eq, List, [], ◌∷◌, ◌++◌, Option, Some, None, refl, ◌∙◌, sym, ap, arith, ⊎_elim, option_eq, is_some, option_or, list_any, IsEquivalence, first_so, second_so, nat_eq_equiv, lists_equiv, options_equiv, false_from_ne_true, ints, same_along, or_none, or_assoc, Entry, at, SameOption, IsCanonical, IsBelow, at_in, at_under, at_over, by_place, at_append, one_per_run, IsBelow-push, below_more, Segment, row, row_if_any, row_eq, shown_segment, shown_segments, IsSegmentsOf, AllCanonical, first_keys, all_after, IsNextSegment}
 use Rattle.blaze_streams.proofs.Steady.{changes}
 use Rattle.blaze_streams.proofs.LengthsLeft.{all_lengths_left, all_less}
 use Rattle.blaze_streams.proofs.Rows.{AnyStops, IsFirstSegment, is_first, rows_low, rows_under, rows_over, firsts_after, none_left, all_canonical_after}
@@ -35,21 +35,21 @@ module _ {V : Type 0} (eq : V → V → Bool) where
   apart_push (e ∷ f ∷ es) p c h = apart_push (f ∷ es) p c h
 
 module _ {A : Type 0} where
-  pub absent : (r : List (Option A)) → list_any is_some r ≡ false → present r ≡ None
-  absent r p = ap (λ b. cond b (Some r) None) p
+  pub row_if_any-none : (r : List (Option A)) → list_any is_some r ≡ false → row_if_any r ≡ None
+  row_if_any-none r p = ap (λ b. cond b (Some r) None) p
 
-  there : (r : List (Option A)) → list_any is_some r ≡ true → present r ≡ Some r
+  there : (r : List (Option A)) → list_any is_some r ≡ true → row_if_any r ≡ Some r
   there r p = ap (λ b. cond b (Some r) None) p
 
   module _ (eq : A → A → Bool) where
     -- the lists after a segment is taken
-    next_present : (Ls : List (List (Entry A))) (p : Entry (List (Option A))) (k : ℤ) → AllCanonical eq Ls → IsFirstSegment Ls p → present (row Ls k) ≡ option_or (at (p ∷ []) k) (present (row (all_after p.hi Ls) k))
+    next_present : (Ls : List (List (Entry A))) (p : Entry (List (Option A))) (k : ℤ) → AllCanonical eq Ls → IsFirstSegment Ls p → row_if_any (row Ls k) ≡ option_or (at (p ∷ []) k) (row_if_any (row (all_after p.hi Ls) k))
     next_present Ls p k c n = by_place p k
-        (λ l h. ap present (n.steady k l h) ∙ there p.value n.some ∙ ap (λ z. option_or z (present (row (all_after p.hi Ls) k))) (sym (at_in p [] k l h)))
-        (λ l. absent (row Ls k) (rows_low eq Ls p.lo k c n.from l)
-        ∙ sym (absent (row (all_after p.hi Ls) k) (rows_under eq p.hi k Ls c (omega (arith, ints, n.full))))
-        ∙ ap (λ z. option_or z (present (row (all_after p.hi Ls) k))) (sym (at_under p [] k l)))
-        (λ h. ap present (sym (rows_over eq p.hi k Ls c h)) ∙ ap (λ z. option_or z (present (row (all_after p.hi Ls) k))) (sym (at_over p [] k h)))
+        (λ l h. ap row_if_any (n.steady k l h) ∙ there p.value n.some ∙ ap (λ z. option_or z (row_if_any (row (all_after p.hi Ls) k))) (sym (at_in p [] k l h)))
+        (λ l. row_if_any-none (row Ls k) (rows_low eq Ls p.lo k c n.from l)
+        ∙ sym (row_if_any-none (row (all_after p.hi Ls) k) (rows_under eq p.hi k Ls c (omega (arith, ints, n.full))))
+        ∙ ap (λ z. option_or z (row_if_any (row (all_after p.hi Ls) k))) (sym (at_under p [] k l)))
+        (λ h. ap row_if_any (sym (rows_over eq p.hi k Ls c h)) ∙ ap (λ z. option_or z (row_if_any (row (all_after p.hi Ls) k))) (sym (at_over p [] k h)))
 
     no_change : (laws : IsEquivalence eq) (t : ℤ) (Ls : List (List (Entry A))) → AllCanonical eq Ls → AnyStops t Ls → row_eq eq (row Ls t) (row Ls (t +ℤ pos 1)) ≡ true → ⊥
     no_change laws t [] c s e = s
@@ -70,14 +70,14 @@ module _ {A : Type 0} where
       pub left : AllCanonical eq Ls
       pub canonical : IsCanonical (row_eq eq) out
       pub under : (s : ℤ) → first_keys Ls ≡ Some s → IsBelow s out
-      pub content : (k : ℤ) → present (row lists k) ≡ option_or (at out k) (present (row Ls k))
-      pub apart : EndsApart (row_eq eq) out (λ k. present (row Ls k))
+      pub content : (k : ℤ) → row_if_any (row lists k) ≡ option_or (at out k) (row_if_any (row Ls k))
+      pub apart : EndsApart (row_eq eq) out (λ k. row_if_any (row Ls k))
 
     pub found_none : (lists : List (List (Entry A))) → AllCanonical eq lists → IsFound lists [] lists
     found_none lists c = record { left = c; canonical = tt; under = λ s f. tt; content = λ k. refl; apart = tt }
 
     module _ (laws : IsEquivalence eq) (lists Ls : List (List (Entry A))) (out : List (Entry (List (Option A)))) (p : Entry (List (Option A))) where
-      next_apart : AllCanonical eq Ls → IsFirstSegment Ls p → SameOption (row_eq eq) (Some p.value) (present (row (all_after p.hi Ls) (p.hi +ℤ pos 1))) → ⊥
+      next_apart : AllCanonical eq Ls → IsFirstSegment Ls p → SameOption (row_eq eq) (Some p.value) (row_if_any (row (all_after p.hi Ls) (p.hi +ℤ pos 1))) → ⊥
       next_apart c n h =
           let k = p.hi +ℤ pos 1 in
           let after = row (all_after p.hi Ls) k in
@@ -88,11 +88,11 @@ module _ {A : Type 0} where
 
       found_push : IsFound lists out Ls → IsBelow p.lo out → IsFirstSegment Ls p → IsFound lists (out ++ p ∷ []) (all_after p.hi Ls)
       found_push s below n =
-          let here : present (row Ls p.lo) ≡ Some p.value = ap present (n.steady p.lo (omega (arith, ints)) n.full) ∙ there p.value n.some in
-          let rest = λ (k : ℤ). present (row (all_after p.hi Ls) k) in
+          let here : row_if_any (row Ls p.lo) ≡ Some p.value = ap row_if_any (n.steady p.lo (omega (arith, ints)) n.full) ∙ there p.value n.some in
+          let rest = λ (k : ℤ). row_if_any (row (all_after p.hi Ls) k) in
           record {
             left = all_canonical_after eq p.hi Ls s.left;
-            canonical = canonical_push (row_eq eq) out p (λ k. present (row Ls k)) s.canonical below n.full s.apart here;
+            canonical = canonical_push (row_eq eq) out p (λ k. row_if_any (row Ls k)) s.canonical below n.full s.apart here;
             under = λ t f. let u = firsts_after p.hi t Ls f in IsBelow-push t out p (below_more p.lo t out (omega (arith, ints, n.full)) below) u;
             content = λ k. s.content k ∙ ap (option_or (at out k)) (next_present Ls p k s.left n) ∙ sym (or_assoc (at out k) (at (p ∷ []) k) (rest k)) ∙ ap (λ z. option_or z (rest k)) (sym (at_append out (p ∷ []) k));
             apart = apart_push (row_eq eq) out p rest (next_apart s.left n);
@@ -108,5 +108,5 @@ module _ {A : Type 0} where
 pub found_all : (lists Ls : List (List (Entry ℕ))) (out : List (Entry (List (Option ℕ)))) → IsFound nat_eq lists out Ls → first_keys Ls ≡ None → IsSegmentsOf nat_eq lists out
 found_all lists Ls out s f = record {
   runs = one_per_run (row_eq nat_eq) (lists_equiv (options_equiv nat_eq_equiv)) out s.canonical;
-  content = λ k. sym (s.content k ∙ ap (option_or (at out k)) (absent (row Ls k) (none_left Ls k f)) ∙ or_none (at out k));
+  content = λ k. sym (s.content k ∙ ap (option_or (at out k)) (row_if_any-none (row Ls k) (none_left Ls k f)) ∙ or_none (at out k));
 }

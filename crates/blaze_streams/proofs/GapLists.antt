@@ -1,5 +1,5 @@
 -- The ranges between a list's ranges are its complement.
-use Rattle.blaze_streams.proofs.Words.{◌≡◌, ℤ, pos, ◌+ℤ◌, ◌-ℤ◌, ◌≤ℤ◌, ◌<ℤ◌, Bool, cond, List, [], ◌∷◌, ◌++◌, Option, Some, None, refl, ◌∙◌, sym, ap, subst, append_assoc, arith, ints, by_lt_z, IsEquivalence, lt_true, lt_false, same_itself, Entry, entry, at, SameOption, IsApart, IsCanonical, AreKeys, IsRangeMap, absent, IsComplement, unit_eq, IsAbove, IsAbove-from_apart, at_in, at_under, at_over, at_before, by_place, above_low, above_rest, canonical, one_per_run, unit_laws, IsNextKey, gap_before, gaps, rank_or_end}
+use Rattle.blaze_streams.proofs.Words.{◌≡◌, ℤ, pos, ◌+ℤ◌, ◌-ℤ◌, ◌≤ℤ◌, ◌<ℤ◌, Bool, cond, List, [], ◌∷◌, ◌++◌, Option, Some, None, refl, ◌∙◌, sym, ap, subst, append_assoc, arith, ints, by_lt_z, IsEquivalence, lt_true, lt_false, same_itself, Entry, entry, at, SameOption, IsApart, IsCanonical, AreKeys, IsRangeMap, value_if_none, IsComplement, unit_eq, IsAbove, IsAbove-from_apart, at_in, at_under, at_over, at_before, by_place, above_low, above_rest, canonical, one_per_run, unit_laws, IsNextKey, gap_before, gaps, rank_or_end}
 
 -- ---- one gap
 
@@ -53,7 +53,7 @@ module _ {V : Type 0} (eq : V → V → Bool) (high : ℤ) where
       (λ h. (l, omega (arith, ints, c.0, k.1), more))
       (λ h. more)
 
-  at_gaps : (n : ℤ) (es : List (Entry V)) (k : ℤ) → IsCanonical eq es → IsAbove (n -ℤ pos 1) es → n ≤ℤ k → k ≤ℤ high → at (gaps n high es) k ≡ absent tt (at es k)
+  at_gaps : (n : ℤ) (es : List (Entry V)) (k : ℤ) → IsCanonical eq es → IsAbove (n -ℤ pos 1) es → n ≤ℤ k → k ≤ℤ high → at (gaps n high es) k ≡ value_if_none tt (at es k)
   at_gaps n [] k c a l u = by_gap (λ G. at G k ≡ Some tt) n (high +ℤ pos 1)
       (λ h. at_in (entry n (high +ℤ pos 1 -ℤ pos 1) tt) [] k l (omega (arith, ints)))
       (λ h. absurd (omega (arith, ints, l, u)))
@@ -61,16 +61,16 @@ module _ {V : Type 0} (eq : V → V → Bool) (high : ℤ) where
       let more = gaps (e.hi +ℤ pos 1) high es in
       let all = above_gaps (e.hi +ℤ pos 1) es c.2 (rest e es c) in
       let none = at_before unit_eq more (e.hi +ℤ pos 1 -ℤ pos 1) k (canonical_gaps (e.hi +ℤ pos 1) es c.2 (rest e es c)) all in
-      let P : List (Entry (Unit {0})) → Type 0 = λ G. at (G ++ more) k ≡ absent tt (at (e ∷ es) k) in
+      let P : List (Entry (Unit {0})) → Type 0 = λ G. at (G ++ more) k ≡ value_if_none tt (at (e ∷ es) k) in
       by_place e k
       (λ i j.
-      let is = none (omega (arith, ints)) ∙ ap (absent tt) (sym (at_in e es k i j)) in
+      let is = none (omega (arith, ints)) ∙ ap (value_if_none tt) (sym (at_in e es k i j)) in
       by_gap P n e.lo (λ h. at_over (entry n (e.lo -ℤ pos 1) tt) more k (omega (arith, ints)) ∙ is) (λ h. is))
       (λ i.
       let nothing = at_under e es k i ∙ at_before eq es e.hi k c.2 (IsAbove-from_apart eq e es c.1) (omega (arith, ints, c.0)) in
-      by_gap P n e.lo (λ h. at_in (entry n (e.lo -ℤ pos 1) tt) more k l (omega (arith, ints)) ∙ ap (absent tt) (sym nothing)) (λ h. absurd (omega (arith, ints, l))))
+      by_gap P n e.lo (λ h. at_in (entry n (e.lo -ℤ pos 1) tt) more k l (omega (arith, ints)) ∙ ap (value_if_none tt) (sym nothing)) (λ h. absurd (omega (arith, ints, l))))
       (λ i.
-      let is = at_gaps (e.hi +ℤ pos 1) es k c.2 (rest e es c) (omega (arith, ints)) u ∙ ap (absent tt) (sym (at_over e es k i)) in
+      let is = at_gaps (e.hi +ℤ pos 1) es k c.2 (rest e es c) (omega (arith, ints)) u ∙ ap (value_if_none tt) (sym (at_over e es k i)) in
       by_gap P n e.lo (λ h. at_over (entry n (e.lo -ℤ pos 1) tt) more k (omega (arith, ints, c.0)) ∙ is) (λ h. is))
 
 -- ---- ranges appended one by one

@@ -1,5 +1,5 @@
 -- The laws of joins and of the results of closures.
-use Rattle.blaze_streams.proofs.Words.{same_value, ◌≡◌, ℤ, ◌≤ℤ◌, Bool, true, false, ◌&&◌, cond, List, [], ◌∷◌, length, map, Option, Some, None, refl, ◌∙◌, sym, subst, ap, arith, option_eq, option_map, is_some, IsEquivalence, lists_equiv, options_equiv, same_itself, is_some_alike, Entry, entry, holds, at, SameOption, SameEntries, IsApart, IsCanonical, canonical_is_unique, IsAbove-from_apart, at_in, at_over, at_before, ints, by_lt_z, canonical, one_per_run, Inner, Left, Full, entries_with_results, as_row, AnswersKeepKeys, LeftJoinHasLeftKeys, FullJoinIsOfListOfTwo, FullJoinIsInner, paired, pair_eq, present, row_eq}
+use Rattle.blaze_streams.proofs.Words.{same_value, ◌≡◌, ℤ, ◌≤ℤ◌, Bool, true, false, ◌&&◌, cond, List, [], ◌∷◌, length, map, Option, Some, None, refl, ◌∙◌, sym, subst, ap, arith, option_eq, option_map, is_some, IsEquivalence, lists_equiv, options_equiv, same_itself, is_some_alike, Entry, entry, holds, at, SameOption, SameEntries, IsApart, IsCanonical, canonical_is_unique, IsAbove-from_apart, at_in, at_over, at_before, ints, by_lt_z, canonical, one_per_run, Inner, Left, Full, entries_with_results, as_row, AnswersKeepKeys, LeftJoinHasLeftKeys, FullJoinIsOfListOfTwo, FullJoinIsInner, paired, pair_eq, row_if_any, row_eq}
 use Rattle.blaze_streams.proofs.Paired.{pair_laws}
 
 either_some : {V W : Type 0} (b : Bool) (v : V) (w : W) (x : Option V) (y : Option W) → is_some y ≡ is_some x → is_some (cond b (Some w) y) ≡ is_some (cond b (Some v) x)
@@ -47,7 +47,7 @@ module _ {A : Type 0} (eq : A → A → Bool) where
   canonical_rows [] c = tt
   canonical_rows (e ∷ es) c = (c.0, apart_rows e es c.1, canonical_rows es c.2)
 
-  present_pair : (x y : Option A) → option_map as_list (paired Full x y) ≡ present (x ∷ y ∷ [])
+  present_pair : (x y : Option A) → option_map as_list (paired Full x y) ≡ row_if_any (x ∷ y ∷ [])
   present_pair None None = refl
   present_pair None (Some w) = refl
   present_pair (Some v) y = refl

@@ -53,7 +53,7 @@ pub use Rattle.blaze_streams.specs.KeyRanges.{TakesLastEnds, joined_ranges, join
 pub use Rattle.blaze_streams.specs.LastParts.{IsLastPart, IsSought}
 pub use Rattle.blaze_streams.specs.RangeLists.{shown_ranges}
 pub use Rattle.blaze_streams.specs.Ranges.{shown_range}
-pub use Rattle.blaze_streams.specs.Segments.{row, present, row_eq, shown_segment, shown_segments, IsSegmentsOf, numbered, all_numbered, AreInOrder}
+pub use Rattle.blaze_streams.specs.Segments.{row, row_if_any, row_eq, shown_segment, shown_segments, IsSegmentsOf, numbered, all_numbered, AreInOrder}
 pub use Rattle.blaze_streams.specs.Sweeps.{time, AscendInTime, events_of, all_events, IsSweep, shown_event, shown_events, instant}
 pub use Rattle.blaze_streams.specs.Violations.{violates, ViolatesAfter, IsFirstViolation}
 pub use Rattle.blaze_streams.specs.declared.events.sweep_event.SweepEvent.{SweepEvent}
@@ -78,7 +78,7 @@ pub use Rattle.blaze_table.proofs.Sweeping.Orders.{tail_sorted, not_less}
 pub use Rattle.blaze_table.proofs.Sweeping.Pushed.{has_last, pushed_joined, pushed_apart}
 pub use Rattle.blaze_table.specs.Canonical.{IsCanonical, IsRangeMap, IsApart, IsOnePerRun, AreKeys, IsDisjoint, IsAscending}
 pub use Rattle.blaze_table.specs.Chosen.{left_alone, left_with_right, IsChosen, right_first}
-pub use Rattle.blaze_table.specs.Complement.{absent, IsComplement}
+pub use Rattle.blaze_table.specs.Complement.{value_if_none, IsComplement}
 pub use Rattle.blaze_table.specs.Ending.{ending_from}
 pub use Rattle.blaze_table.specs.Entries.{Entry, at, SameOption, entry, SameEntries, holds, shown_entry, shown_list}
 pub use Rattle.blaze_table.specs.Painted.{ClonesAreAlike}

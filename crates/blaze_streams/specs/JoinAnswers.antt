@@ -12,8 +12,8 @@ abbrev pub either : {C D A B : Type 0} → (C → A) → (D → B) → Option C 
 either left right a = (shown_option left a.0, shown_option right a.1.0)
 
 -- the values of two lists that the two arguments of a call represent, if the left list has a value
-abbrev pub with_left : {C D A B : Type 0} → (C → A) → (D → B) → C × (Option D × Unit {0}) → Option A × Option B
-with_left left right a = (Some (left a.0), shown_option right a.1.0)
+abbrev pub left_or_both : {C D A B : Type 0} → (C → A) → (D → B) → C × (Option D × Unit {0}) → Option A × Option B
+left_or_both left right a = (Some (left a.0), shown_option right a.1.0)
 
 -- the values of two lists that the two arguments of a call represent, if both lists have a value
 abbrev pub both : {C D A B : Type 0} → (C → A) → (D → B) → C × (D × Unit {0}) → Option A × Option B

@@ -30,8 +30,8 @@ row [] k = []
 row (L ∷ Ls) k = at L k ∷ row Ls k
 
 -- the row, if at least one list has a value
-abbrev pub present : {A : Type 0} → List (Option A) → Option (List (Option A))
-present r = if list_any is_some r then Some r else None
+abbrev pub row_if_any : {A : Type 0} → List (Option A) → Option (List (Option A))
+row_if_any r = if list_any is_some r then Some r else None
 
 -- two rows are equal: position by position both lists have no value, or equal values
 abbrev pub row_eq : {A : Type 0} → (A → A → Bool) → List (Option A) → List (Option A) → Bool
@@ -48,4 +48,4 @@ shown_segments rank segments = map (shown_segment rank) segments
 -- run of rows.
 pub record IsSegmentsOf {A : Type 0} (eq : A → A → Bool) (lists : List (List (Entry A))) (segments : List (Entry (List (Option A)))) : Type 0 where
   pub runs : IsOnePerRun (row_eq eq) segments
-  pub content : (k : ℤ) → at segments k ≡ present (row lists k)
+  pub content : (k : ℤ) → at segments k ≡ row_if_any (row lists k)

@@ -3,7 +3,7 @@ ghost use Rattle.std.specs.Prelude.{◌≡◌, true, ⊤, IfOk, IsOkAnd};
 ghost use Rattle.std.specs.Fn.{Mut};
 ghost use Rattle.blaze_streams.specs.Answers.{TakesValue, AnswersAtValue};
 ghost use Rattle.blaze_streams.specs.Carried.{shown_pair};
-ghost use Rattle.blaze_streams.specs.JoinAnswers.{either, with_left, both};
+ghost use Rattle.blaze_streams.specs.JoinAnswers.{either, left_or_both, both};
 ghost use Rattle.blaze_streams.specs.Joins.{is_joined};
 ghost use Rattle.blaze_streams.specs.declared.segmenting.joins.JoinKind.TheVariants.{Inner, Left};
 ghost use Rattle.blaze_streams.specs.declared.segmenting.joins.JoinKind.TheVariants.{Full};
@@ -83,16 +83,16 @@ impl<VCL: ValueCarrier, VCR: ValueCarrier, W, F: FnMut(Option<VCL>, Option<VCR>)
 }
 
 /// The closure gets the left stream's carrier, and the right stream's if it exists, at a segment of a left join.
-pub struct WithLeft;
+pub struct LeftOrBoth;
 
 impl<VCL: ValueCarrier, VCR: ValueCarrier, W, F: FnMut(VCL, Option<VCR>) -> W> Asks<
     F,
     (Option<VCL>, Option<VCR>),
     W,
-> for WithLeft {
+> for LeftOrBoth {
     type Arguments = (VCL, (Option<VCR>, ()));
 
-    ghost shows = { with_left VCL.shown VCR.shown };
+    ghost shows = { left_or_both VCL.shown VCR.shown };
 
     ghost calls = { F.FnMut };
 
@@ -101,9 +101,9 @@ impl<VCL: ValueCarrier, VCR: ValueCarrier, W, F: FnMut(VCL, Option<VCR>) -> W> A
     fn ask(f: &mut F, carrier: (Option<VCL>, Option<VCR>)) -> Result<W, AllocError>
         requires has { let pair = shown_pair VCL.shown VCR.shown carrier in is_joined Left pair.0
             pair.1 ≡ true }
-        requires callable { TakesValue (with_left VCL.shown VCR.shown) F.FnMut f.old
+        requires callable { TakesValue (left_or_both VCL.shown VCR.shown) F.FnMut f.old
             (shown_pair VCL.shown VCR.shown carrier) }
-        ensures { IsOkAnd result (λ answer. AnswersAtValue (with_left VCL.shown VCR.shown) F.FnMut f.old
+        ensures { IsOkAnd result (λ answer. AnswersAtValue (left_or_both VCL.shown VCR.shown) F.FnMut f.old
             (shown_pair VCL.shown VCR.shown carrier) answer f.new) }
     {
         let (left, right) = carrier;

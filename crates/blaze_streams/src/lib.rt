@@ -50,7 +50,7 @@ pub use transforms::transform;
 
 // For `range_map_blaze` only, which builds maps from chosen entries and joins from segments.
 #[doc(hidden)]
-pub use asks::{Asks, Both, Either, Whole, WithLeft};
+pub use asks::{Asks, Both, Either, LeftOrBoth, Whole};
 #[doc(hidden)]
 pub use carrier::HasValue;
 #[doc(hidden)]

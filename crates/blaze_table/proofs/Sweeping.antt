@@ -1,6 +1,6 @@
 pub mod Sweeps
 pub mod Canonicals
-pub mod Held
+pub mod PairValues
 pub mod Pieces
 pub mod Pushed
 pub mod Placed

@@ -55,14 +55,14 @@ pub use Rattle.blaze_table.specs.Edited.{IsEditPlan, IsPredecessor, IsTailSplit,
 pub use Rattle.blaze_table.specs.Ending.{ending_from, overlapping}
 pub use Rattle.blaze_table.specs.Entries.{Entry, at, SameOption, entry, entry_at, SameEntries, holds, SameContent, shown_list, shown_entry}
 pub use Rattle.blaze_table.specs.Equality.{same_entry, same_entries}
-pub use Rattle.blaze_table.specs.Filled.{AreStartsKept, filled, IsFilled, IsMappedFrom, IsKeptIn, IsFirstGap, AreKept}
-pub use Rattle.blaze_table.specs.Filling.{never_equal, IsOrdered, IsJoint, IsJoinedAt, IsJoinedBut, IsBeside, IsNoted, IsFilledBut, IsFilling, IsGapFilled, IsOrderedTable, IsGapEnd, IsNextGap, AreThere, GoesBack, taken}
+pub use Rattle.blaze_table.specs.Filled.{AreStartsKept, filled_content, IsFilled, IsMappedFrom, IsKeptIn, IsFirstGap, AreKept}
+pub use Rattle.blaze_table.specs.Filling.{never_equal, IsOrdered, IsJoint, IsJoinedAt, IsJoinedBut, IsBeside, IsNoted, IsFilledBut, IsFilling, IsGapFilled, IsOrderedTable, IsGapEnd, IsNextGap, AreThere, GoesBack, without_all}
 pub use Rattle.blaze_table.specs.Gap.{IsGap, IsClearFrom}
-pub use Rattle.blaze_table.specs.Held.{held_value, PutsPiece}
+pub use Rattle.blaze_table.specs.PairValue.{value_of_pair, PutsPiece}
 pub use Rattle.blaze_table.specs.Keeping.{AddsKey, IsKept, KeepsMore}
 pub use Rattle.blaze_table.specs.LastBelow.{IsLastBelow}
 pub use Rattle.blaze_table.specs.Laws.{PairsAreContent, CanonicalIsShortest, CanonicalIsUnique, CanonicalIsFewest, LengthsAreMapped}
-pub use Rattle.blaze_table.specs.Painted.{ClonesAreAlike, IsApartFrom, IsAlreadyIn, IsInside, LeavesAlone, painted, last_at, painted_in_order, IsPainted}
+pub use Rattle.blaze_table.specs.Painted.{ClonesAreAlike, IsApartFrom, IsAlreadyIn, IsInside, LeavesAlone, painted_content, last_at, painted_in_order, IsPainted}
 pub use Rattle.blaze_table.specs.Pairs.{pairs_from, pairs_of, pair_list, value_at, IsAscendingPairs}
 pub use Rattle.blaze_table.specs.Pieces.{place_cmp, IsWaiting, KeepsReaching, ArePairsPlacedBelow, IsPlacedPair, EndsAreKeys, AreAllPairsPlaced, IsPiece, HasKey, HasStarted, places_of, AreAscending}
 pub use Rattle.blaze_table.specs.Planned.{tail_of, HasEditLookups, IsWalkOf, IsWorked, inner_entries, moved_count, IsTail, AreOtherEntriesKept, IsEntrySet, IsEntryBetween, IsEntryExtended, IsEntryAcross, IsJoinedEnd, IsUnjoined, joined_start, IsPlanOf, reaches, IsLikeAbove, IsJoinedTo, IsJoinedEndAfter, IsUnlikeAbove, GoesOnUnequal}
@@ -73,6 +73,6 @@ pub use Rattle.blaze_table.specs.Splice.{before, after, glue, IsBelow, IsListWit
 pub use Rattle.blaze_table.specs.Swept.{AreApart, key_after, IsSwept, IsBare}
 pub use Rattle.blaze_table.specs.Table.{IsTable}
 pub use Rattle.blaze_table.specs.Work.{IsCountedCut, IsCounted, IsCountedPaint, PutsAtMost}
-pub use Rattle.blaze_table.specs.declared.sweep.held.Held.{Held}
-pub use Rattle.blaze_table.specs.declared.sweep.held.Held.TheVariants.{Moved, Present}
+pub use Rattle.blaze_table.specs.declared.sweep.pair_value.PairValue.{PairValue}
+pub use Rattle.blaze_table.specs.declared.sweep.pair_value.PairValue.TheVariants.{Moved, Present}
 pub use Rattle.blaze_table.specs.declared.sweep.placed.Placed.{Placed}

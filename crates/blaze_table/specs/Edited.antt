@@ -16,20 +16,20 @@ HasRoom z es None = Unit {0}
 HasRoom z es (Some r) = (z <ℤ r.1) × IsSome (start_at r.0 es) × (start_at (z +ℤ pos 1) es ≡ None)
 
 -- The part above z of the entry from r.0 to r.1 became a separate entry. The entry was moved there, or, if it starts
--- below l, a new entry with the value `above` was inserted.
+-- below l, a new entry with the value `tail_value` was inserted.
 abbrev pub IsTailSplit : {V : Type 0} → ℤ → ℤ → Option (ℤ × ℤ) → Option V → List (Entry V) → List (Entry V) → Type 0
-IsTailSplit l z None above old new = new ≡ old
-IsTailSplit l z (Some r) above old new = ((r.0 <ℤ l) × IsSomeAnd above (λ v. new ≡ with_entry (entry (z +ℤ pos 1) r.1 v) old)) ⊎ ((l ≤ℤ r.0) × IsStartMoved r.0 (z +ℤ pos 1) old new)
+IsTailSplit l z None tail_value old new = new ≡ old
+IsTailSplit l z (Some r) tail_value old new = ((r.0 <ℤ l) × IsSomeAnd tail_value (λ v. new ≡ with_entry (entry (z +ℤ pos 1) r.1 v) old)) ⊎ ((l ≤ℤ r.0) × IsStartMoved r.0 (z +ℤ pos 1) old new)
 
 -- The ends of the last entry that starts below l. They may be missing if that entry also ends below l.
 abbrev pub IsPredecessor : {V : Type 0} → ℤ → List (Entry V) → Option (ℤ × ℤ) → Type 0
 IsPredecessor l es None = before l es ≡ es
 IsPredecessor l es (Some r) = Some r ≡ option_map range_in (last_or None es)
 
--- if the entry with the given ends starts below l, `above` is equal to its value
+-- if the entry with the given ends starts below l, `tail_value` is equal to its value
 abbrev pub IsLikeTail : {V : Type 0} → (V → V → Bool) → ℤ → List (Entry V) → Option (ℤ × ℤ) → Option V → Type 0
-IsLikeTail eq l es None above = Unit {0}
-IsLikeTail eq l es (Some r) above = r.0 <ℤ l → (e : Entry _) → start_at r.0 es ≡ Some e → IsSomeAnd above (λ v. eq e.value v ≡ true)
+IsLikeTail eq l es None tail_value = Unit {0}
+IsLikeTail eq l es (Some r) tail_value = r.0 <ℤ l → (e : Entry _) → start_at r.0 es ≡ Some e → IsSomeAnd tail_value (λ v. eq e.value v ≡ true)
 
 -- whether the edit removes the entry that starts at l: it exists and does not extend above the range
 abbrev pub is_removed : {X : Type 0} → ℤ → Option X → Option (ℤ × ℤ) → Bool
@@ -46,8 +46,8 @@ pub record IsEditPlan {T V : Type 0} (rank : T → ℤ) (eq : V → V → Bool) 
   -- the last entry that starts below the range
   pub predecessor : IsPredecessor l (below l es) (option_map (shown_ends rank) plan.predecessor)
   -- the entry that starts at the range's first key, if one exists
-  pub first : option_map (shown_ends rank) plan.first ≡ option_map range_in (start_at l es)
+  pub at_start : option_map (shown_ends rank) plan.at_start ≡ option_map range_in (start_at l es)
   -- the number of removed entries that start above the range's first key
   pub removed_count : plan.removed_count + moved_count l (option_map (shown_ends rank) plan.tail) ≡ length (inner_entries l (rank plan.end) es)
   -- a value equal to that of the last entry that starts below the range, if that entry extends above the range
-  pub above : IsLikeAbove eq l (rank plan.end) es value
+  pub tail_value : IsLikeAbove eq l (rank plan.end) es value

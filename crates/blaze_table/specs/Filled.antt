@@ -7,8 +7,8 @@ use Rattle.blaze_table.specs.Canonical.{IsRangeMap, IsRunStart, IsRunEnd}
 use Rattle.blaze_table.specs.Gap.{IsClearFrom}
 
 -- the content after the keys from l to h without a value get v; a key with a value keeps it
-abbrev pub filled : {V : Type 0} → ℤ → ℤ → V → (ℤ → Option V) → ℤ → Option V
-filled l h v content k = option_or (content k) (if int_le l k && int_le k h then Some v else None)
+abbrev pub filled_content : {V : Type 0} → ℤ → ℤ → V → (ℤ → Option V) → ℤ → Option V
+filled_content l h v content k = option_or (content k) (if int_le l k && int_le k h then Some v else None)
 
 -- an entry of the list starts where e starts, ends where e ends or above, and has the very value of e
 abbrev pub IsKeptIn : {V : Type 0} → List (Entry V) → Entry V → Type 0
@@ -29,8 +29,8 @@ pub record AreKept {V : Type 0} (eq : V → V → Bool) (content : ℤ → Optio
 -- the effect of a fill with an entry on a range map: the content is the filled one, and the old values remain
 pub record IsFilled {V : Type 0} (eq : V → V → Bool) (low high : ℤ) (p : Entry V) (old new : List (Entry V)) : Type 0 where
   pub range_map : IsRangeMap eq low high new
-  pub content : (k : ℤ) → SameOption eq (at new k) (filled p.lo p.hi p.value (at old) k)
-  pub kept : AreKept eq (filled p.lo p.hi p.value (at old)) old new
+  pub content : (k : ℤ) → SameOption eq (at new k) (filled_content p.lo p.hi p.value (at old) k)
+  pub kept : AreKept eq (filled_content p.lo p.hi p.value (at old)) old new
 
 -- each key from a to b has a value
 abbrev pub IsMappedFrom : {V : Type 0} → (ℤ → Option V) → ℤ → ℤ → Type 0

@@ -5,7 +5,7 @@ use Rattle.blaze_entries.specs.Starts.{start_at, with_entry, without}
 use Rattle.blaze_table.specs.Canonical.{AreKeys, IsCanonical, IsRunStart, HasStart}
 use Rattle.blaze_table.specs.Count.{keys_in}
 use Rattle.blaze_table.specs.Entries.{Entry, entry, at, SameOption, SameContent}
-use Rattle.blaze_table.specs.Filled.{filled, IsFirstGap, IsKeptIn}
+use Rattle.blaze_table.specs.Filled.{filled_content, IsFirstGap, IsKeptIn}
 use Rattle.blaze_table.specs.Gap.{IsClearFrom}
 use Rattle.blaze_table.specs.Table.{IsTable}
 
@@ -71,23 +71,23 @@ pub record IsGapFilled {V : Type 0} (a b : ℤ) (v : V) (t u : Bool) (old new : 
   pub above : IsNoted u (b +ℤ pos 1) half all
 
 -- the list without the entries that start at the keys, the last one removed first
-abbrev pub taken : {V : Type 0} → List ℤ → List (Entry V) → List (Entry V)
-taken [] es = es
-taken (s ∷ ss) es = without s (taken ss es)
+abbrev pub without_all : {V : Type 0} → List ℤ → List (Entry V) → List (Entry V)
+without_all [] es = es
+without_all (s ∷ ss) es = without s (without_all ss es)
 
 -- each of these entries exists when it is removed
 abbrev pub AreThere : {V : Type 0} → List ℤ → List (Entry V) → Type 0
 AreThere [] es = Unit {0}
-AreThere (s ∷ ss) es = IsSome (start_at s (taken ss es)) × AreThere ss es
+AreThere (s ∷ ss) es = IsSome (start_at s (without_all ss es)) × AreThere ss es
 
 -- removing the entries that start at the keys restores the old list
 pub record GoesBack {V : Type 0} (starts : List ℤ) (es old : List (Entry V)) : Type 0 where
   pub there : AreThere starts es
-  pub taken : taken starts es ≡ old
+  pub taken : without_all starts es ≡ old
 
 -- The keys from l to before a are filled with v, and the gap from a to b is the next one. Each old entry remains.
 pub record IsFilling {V : Type 0} (eq : V → V → Bool) (l h : ℤ) (v : V) (starts join_keys : List ℤ) (old cur : List (Entry V)) (a b : ℤ) : Type 0 where
-  pub content : (k : ℤ) → SameOption eq (at cur k) (filled l (a -ℤ pos 1) v (at old) k)
+  pub content : (k : ℤ) → SameOption eq (at cur k) (filled_content l (a -ℤ pos 1) v (at old) k)
   pub kept : (e : Entry V) → Contains old e → Contains cur e
   pub from : l ≤ℤ a
   pub order : a ≤ℤ b
@@ -99,7 +99,7 @@ pub record IsFilling {V : Type 0} (eq : V → V → Bool) (l h : ℤ) (v : V) (s
 
 -- the keys from l to h are filled with v, and only the entries at the joints are not joined yet; each old entry remains
 pub record IsFilledBut {V : Type 0} (eq : V → V → Bool) (l h : ℤ) (v : V) (starts join_keys : List ℤ) (old cur : List (Entry V)) : Type 0 where
-  pub content : (k : ℤ) → SameOption eq (at cur k) (filled l h v (at old) k)
+  pub content : (k : ℤ) → SameOption eq (at cur k) (filled_content l h v (at old) k)
   pub kept : (e : Entry V) → Contains old e → Contains cur e
   pub joined : IsJoinedBut eq join_keys cur
   pub back : GoesBack starts cur old

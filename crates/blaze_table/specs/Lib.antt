@@ -25,6 +25,6 @@ pub mod Ending
 pub mod Swept
 pub mod CanonicalOf
 pub mod Pieces
-pub mod Held
+pub mod PairValue
 pub mod Filled
 pub mod Filling

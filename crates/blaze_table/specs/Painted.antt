@@ -7,8 +7,8 @@ use Rattle.blaze_table.specs.Canonical.{IsRangeMap}
 
 -- The content after the keys from l to h are painted with v: v at these keys, elsewhere as before. If h is below l,
 -- nothing changes.
-abbrev pub painted : {V : Type 0} → ℤ → ℤ → V → (ℤ → Option V) → ℤ → Option V
-painted l h v content k = if int_le l k && int_le k h then Some v else content k
+abbrev pub painted_content : {V : Type 0} → ℤ → ℤ → V → (ℤ → Option V) → ℤ → Option V
+painted_content l h v content k = if int_le l k && int_le k h then Some v else content k
 
 -- no key of the entry p is in the entry e or next to it
 abbrev pub IsApartFrom : {V : Type 0} → Entry V → Entry V → Type 0
@@ -27,7 +27,7 @@ LeavesAlone eq p e = (p.hi <ℤ p.lo) ⊎ (IsApartFrom p e ⊎ IsAlreadyIn eq p 
 -- or at most one if it was empty. An entry that the paint does not affect remains, with its very value.
 pub record IsPainted {V : Type 0} (eq : V → V → Bool) (low high : ℤ) (p : Entry V) (old new : List (Entry V)) : Type 0 where
   pub range_map : IsRangeMap eq low high new
-  pub content : (k : ℤ) → SameOption eq (at new k) (painted p.lo p.hi p.value (at old) k)
+  pub content : (k : ℤ) → SameOption eq (at new k) (painted_content p.lo p.hi p.value (at old) k)
   pub few : length new ≤ length old + 2
   pub alone : old ≡ [] → length new ≤ 1
   pub kept : (e : Entry V) → Contains old e → LeavesAlone eq p e → Contains new e

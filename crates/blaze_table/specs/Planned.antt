@@ -53,7 +53,7 @@ joined_start l (Some n) = if n.2 && (int_le l n.1 || int_eq l (n.1 +ℤ pos 1)) 
 pub record IsPlanOf {V : Type 0} (test : V → Bool) (l h : ℤ) (es : List (Entry V)) (s : Seen) : Type 0 where
   pub end : IsJoinedEnd test h es s.end
   pub tail : s.tail ≡ tail_of h (option_map (found_in test) (last_below (h +ℤ pos 1) es))
-  pub first : s.first ≡ option_map (found_in test) (start_at l es)
+  pub at_start : s.at_start ≡ option_map (found_in test) (start_at l es)
   pub predecessor : s.predecessor ≡ option_map (found_in test) (last_below l es)
   pub removed_count : s.removed_count + moved_count l s.tail ≡ length (inner_entries l s.end es)
 
@@ -74,7 +74,7 @@ IsUnlikeAbove eq test l h es o = IfSome (last_below l es) (λ e. h <ℤ e.hi →
 pub record IsWalkOf {V : Type 0} (eq : V → V → Bool) (test : V → Bool) (l h : ℤ) (es : List (Entry V)) (s : Seen) (n : ℕ) (o : Option V) : Type 0 where
   pub plan : IsPlanOf test l h es s
   pub keys_outside : pos n ≡ keys_in (before l es) +ℤ keys_in (after h es)
-  pub above : IsUnlikeAbove eq test l h es o
+  pub tail_value : IsUnlikeAbove eq test l h es o
 
 -- the entry that contains the key h has keys above it too, and its value is not equal to the range's
 pub record GoesOnUnequal {V : Type 0} (test : V → Bool) (h : ℤ) (es : List (Entry V)) : Type 0 where

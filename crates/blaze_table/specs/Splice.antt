@@ -7,7 +7,7 @@ use Rattle.std.specs.Ordering.{int_eq}
 pub use Rattle.blaze_entries.specs.Overlap.{overlap, covered_keys}
 use Rattle.blaze_table.specs.Entries.{Entry, entry, at, SameEntries, SameOption}
 use Rattle.blaze_table.specs.Canonical.{IsCanonical}
-use Rattle.blaze_table.specs.Painted.{painted, IsApartFrom}
+use Rattle.blaze_table.specs.Painted.{painted_content, IsApartFrom}
 use Rattle.blaze_table.specs.Cut.{cut_at, below_at, from_at}
 use Rattle.blaze_table.specs.Table.{IsTable}
 
@@ -60,7 +60,7 @@ pub record IsPaintOf {V : Type 0} (eq : V → V → Bool) (p : Entry V) (es new 
 -- a painted list, by structure; entries apart from the painted entry remain
 pub record IsListPainted {V : Type 0} (eq : V → V → Bool) (p : Entry V) (old new : List (Entry V)) : Type 0 where
   pub canonical : IsCanonical eq new
-  pub content : (k : ℤ) → SameOption eq (at new k) (painted p.lo p.hi p.value (at old) k)
+  pub content : (k : ℤ) → SameOption eq (at new k) (painted_content p.lo p.hi p.value (at old) k)
   pub few : length new ≤ length old + 2
   pub alone : old ≡ [] → length new ≤ 1
   pub kept : (e : Entry V) → Contains old e → IsApartFrom p e → Contains new e

@@ -51,8 +51,8 @@ fn cut_shared<T: Integer, V: Eq + Clone>(
         entries.move_start(start, next)?;
         return Ok(value);
     }
-    let above = value.clone()?;
-    entries.insert(next, end, above)?;
+    let tail_value = value.clone()?;
+    entries.insert(next, end, tail_value)?;
     entries.set_end(start, key.sub_one());
     Ok(value)
 }
@@ -61,12 +61,12 @@ fn cut_shared<T: Integer, V: Eq + Clone>(
 fn cut_key<T: Integer, V: Eq + Clone>(
     entries: &mut Counted<T, V>,
     key: T,
-    held: RangeEntry<T, Option<V>>,
+    entry: RangeEntry<T, Option<V>>,
 ) -> Result<V, AllocError>
     requires clones { ClonesAreAlike V.is_clone V.eq }
     requires canonical { IsCanonical V.eq entries.old.entries }
     requires held { IsRangeCloned T.rank V.is_clone
-        (holder_of (T.rank key) entries.old.entries) (Some held) }
+        (holder_of (T.rank key) entries.old.entries) (Some entry) }
     ensures cut { IfOk result (λ value. IsKeyTaken V.eq (T.rank key) (Some value)
         entries.old.entries entries.new.entries) }
     ensures worked { OnOk result (IsWorked 1 0 entries.old entries.new) }
@@ -74,7 +74,7 @@ fn cut_key<T: Integer, V: Eq + Clone>(
     ensures err { OnErr result (entries.new ≡ entries.old) }
 {
     entries.in_hand();
-    let RangeEntry { start, end, value } = held;
+    let RangeEntry { start, end, value } = entry;
     match value {
         Some(value) => cut_shared(entries, key, start, end, value),
         None => Ok(entries.remove(key)),
@@ -83,16 +83,16 @@ fn cut_key<T: Integer, V: Eq + Clone>(
 
 // Removes a key from the entry that contains it, given the result of the lookup. It returns the key's value and the new
 // number of keys, where `len` is the old one.
-fn cut_held<T: Integer, V: Eq + Clone>(
+fn cut_counted_key<T: Integer, V: Eq + Clone>(
     entries: &mut Counted<T, V>,
     len: T::SafeLen,
     key: T,
-    held: RangeEntry<T, Option<V>>,
+    entry: RangeEntry<T, Option<V>>,
 ) -> Result<(V, T::SafeLen), AllocError>
     requires clones { ClonesAreAlike V.is_clone V.eq }
     requires table { IsTable V.eq T.low T.high (T.SafeLen.number len) entries.old.entries }
     requires held { IsRangeCloned T.rank V.is_clone
-        (holder_of (T.rank key) entries.old.entries) (Some held) }
+        (holder_of (T.rank key) entries.old.entries) (Some entry) }
     ensures cut { IfOk result (λ r. IsKeyCut V.eq T.low T.high (T.SafeLen.number r.1)
         (T.rank key) (Some r.0) entries.old.entries entries.new.entries) }
     ensures worked { OnOk result (IsWorked 1 0 entries.old entries.new) }
@@ -100,9 +100,9 @@ fn cut_held<T: Integer, V: Eq + Clone>(
     ensures err { OnErr result (IsRefused entries.old entries.new) }
 {
     entries.in_hand();
-    let value = cut_key(entries, key, held)?;
-    let rest = len.minus(T::SafeLen::one());
-    Ok((value, rest))
+    let value = cut_key(entries, key, entry)?;
+    let new_len = len.minus(T::SafeLen::one());
+    Ok((value, new_len))
 }
 
 /// Removes a key. It returns the key's value and the new number of keys, where `len` is the old one. If an allocation
@@ -125,9 +125,9 @@ pub fn cut<T: Integer, V: Eq + Clone>(
     entries.in_hand();
     let found = entries.entry_containing(key)?;
     match found {
-        Some(held) => {
-            let (value, rest) = cut_held(entries, len, key, held)?;
-            Ok((Some(value), rest))
+        Some(entry) => {
+            let (value, new_len) = cut_counted_key(entries, len, key, entry)?;
+            Ok((Some(value), new_len))
         }
         None => Ok((None, len)),
     }
@@ -138,20 +138,20 @@ pub fn cut<T: Integer, V: Eq + Clone>(
 // keys.
 fn cut_front<T: Integer, V: Eq + Clone>(
     entries: &mut Counted<T, V>,
-    held: RangeEntry<T, Option<V>>,
+    entry: RangeEntry<T, Option<V>>,
 ) -> Result<V, AllocError>
     requires clones { ClonesAreAlike V.is_clone V.eq }
     requires canonical { IsCanonical V.eq entries.old.entries }
     requires held { IsRangeCloned T.rank V.is_clone
-        (slice_get entries.old.entries 0) (Some held) }
-    ensures cut { IfOk result (λ value. IsKeyTaken V.eq (T.rank held.start) (Some value)
+        (slice_get entries.old.entries 0) (Some entry) }
+    ensures cut { IfOk result (λ value. IsKeyTaken V.eq (T.rank entry.start) (Some value)
         entries.old.entries entries.new.entries) }
     ensures worked { OnOk result (IsWorked 1 0 entries.old entries.new) }
     ensures refused { OnErr result (IsSomeAnd (slice_get entries.old.entries 0) (λ e. e.lo <ℤ e.hi)) }
     ensures err { OnErr result (IsRefused entries.old entries.new) }
 {
     entries.in_hand();
-    let RangeEntry { start, end, value } = held;
+    let RangeEntry { start, end, value } = entry;
     match value {
         Some(value) => {
             end.in_hand();
@@ -181,11 +181,11 @@ pub fn cut_first<T: Integer, V: Eq + Clone>(
     entries.in_hand();
     let first = entries.first_range_cloned()?;
     match first {
-        Some(held) => {
-            let key = held.start;
-            let value = cut_front(entries, held)?;
-            let rest = len.minus(T::SafeLen::one());
-            Ok((key, value, rest))
+        Some(entry) => {
+            let key = entry.start;
+            let value = cut_front(entries, entry)?;
+            let new_len = len.minus(T::SafeLen::one());
+            Ok((key, value, new_len))
         }
         None => unreachable!(),
     }
@@ -195,18 +195,18 @@ pub fn cut_first<T: Integer, V: Eq + Clone>(
 // and compares no keys of other entries.
 fn cut_back<T: Integer, V: Eq + Clone>(
     entries: &mut Counted<T, V>,
-    held: RangeEntry<T, Option<V>>,
+    entry: RangeEntry<T, Option<V>>,
 ) -> V
     requires clones { ClonesAreAlike V.is_clone V.eq }
     requires canonical { IsCanonical V.eq entries.old.entries }
     requires held { IsRangeCloned T.rank V.is_clone
-        (slice_get entries.old.entries (length entries.old.entries - 1)) (Some held) }
-    ensures cut { IsKeyTaken V.eq (T.rank held.end) (Some result)
+        (slice_get entries.old.entries (length entries.old.entries - 1)) (Some entry) }
+    ensures cut { IsKeyTaken V.eq (T.rank entry.end) (Some result)
         entries.old.entries entries.new.entries }
     ensures worked { IsWorked 0 0 entries.old entries.new }
 {
     entries.in_hand();
-    let RangeEntry { start, end, value } = held;
+    let RangeEntry { start, end, value } = entry;
     match value {
         Some(value) => {
             start.in_hand();
@@ -236,13 +236,13 @@ pub fn cut_last<T: Integer, V: Eq + Clone>(
     ensures err { OnErr result (IsRefused entries.old entries.new) }
 {
     entries.in_hand();
-    let last = entries.last_held()?;
+    let last = entries.last_range_cloned()?;
     match last {
-        Some(held) => {
-            let key = held.end;
-            let value = cut_back(entries, held);
-            let rest = len.minus(T::SafeLen::one());
-            Ok((key, value, rest))
+        Some(entry) => {
+            let key = entry.end;
+            let value = cut_back(entries, entry);
+            let new_len = len.minus(T::SafeLen::one());
+            Ok((key, value, new_len))
         }
         None => unreachable!(),
     }
@@ -259,7 +259,7 @@ pub fn cut_range<T: Integer, V: Eq + Clone>(
     requires order { T.rank lo ≤ℤ T.rank hi }
     requires clones { ClonesAreAlike V.is_clone V.eq }
     requires table { IsTable V.eq T.low T.high (T.SafeLen.number len) entries.old.entries }
-    ensures cut { IfOk result (λ rest. IsTableCut V.eq T.low T.high (T.SafeLen.number rest)
+    ensures cut { IfOk result (λ new_len. IsTableCut V.eq T.low T.high (T.SafeLen.number new_len)
         (T.rank lo) (T.rank hi) entries.old.entries entries.new.entries) }
     ensures counted { OnOk result (IsCountedCut entries.old entries.new) }
     ensures refused { OnErr result (GoesOnAbove (T.rank hi) entries.old.entries) }
@@ -271,9 +271,9 @@ pub fn cut_range<T: Integer, V: Eq + Clone>(
     let Walk {
         plan,
         keys_outside,
-        above,
+        tail_value,
         ..
     } = found;
-    remove_keys(entries, lo, plan, above)?;
+    remove_keys(entries, lo, plan, tail_value)?;
     Ok(keys_outside)
 }

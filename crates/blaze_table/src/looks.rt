@@ -71,8 +71,8 @@ fn value_above<T: Integer, V: Eq + Clone>(
 {
     match predecessor {
         Some(found) if !found.value && is_below(hi, found.end) => {
-            let above = entries.clone_value(found.start)?;
-            Ok(Some(above))
+            let tail_value = entries.clone_value(found.start)?;
+            Ok(Some(tail_value))
         }
         _ => Ok(None),
     }
@@ -93,18 +93,18 @@ pub fn walk_by_looks<T: Integer, V: Eq + Clone>(
     requires table { IsTable V.eq T.low T.high (T.SafeLen.number len) entries.old.entries }
     ensures found { IfOk result (λ w. IsWalkOf V.eq (λ x. V.eq x value.now)
         (T.rank lo) (T.rank hi) entries.old.entries
-        (shown_plan T.rank w.plan) (T.SafeLen.number w.keys_outside) w.above) }
+        (shown_plan T.rank w.plan) (T.SafeLen.number w.keys_outside) w.tail_value) }
     ensures refused { OnErr result
         (GoesOnUnequal (λ x. V.eq x value.now) (T.rank hi) entries.old.entries) }
     ensures looked { HasEditLookups (T.rank lo) (T.rank hi) entries.old entries.new }
 {
     entries.in_hand();
     let (plan, keys_outside) = plan(entries, len, lo, hi, value);
-    let above = value_above(entries, hi, plan.predecessor)?;
+    let tail_value = value_above(entries, hi, plan.predecessor)?;
     Ok(Walk {
         plan,
         keys_outside,
-        above,
-        value: None,
+        tail_value,
+        old_value: None,
     })
 }

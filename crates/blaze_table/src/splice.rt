@@ -19,9 +19,9 @@ use std::alloc::AllocError;
 // Returns whether one entry contains all keys of a range that ends at `hi`, with an equal value.
 fn is_inside<T: Integer>(plan: Plan<T>, hi: T) -> bool
     ensures { result
-        ≡ reaches (T.rank hi) (option_or (shown_plan T.rank plan).first (shown_plan T.rank plan).predecessor) }
+        ≡ reaches (T.rank hi) (option_or (shown_plan T.rank plan).at_start (shown_plan T.rank plan).predecessor) }
 {
-    match plan.first.or(plan.predecessor) {
+    match plan.at_start.or(plan.predecessor) {
         Some(found) => found.value && is_at_most(hi, found.end),
         None => false,
     }
@@ -57,7 +57,7 @@ pub fn paint_planned<T: Integer, V: Eq + Drop>(
     requires table { IsTable V.eq T.low T.high (T.SafeLen.number len) entries.old.entries }
     requires walk { IsWalkOf V.eq (λ w. V.eq w value)
         (T.rank lo) (T.rank hi) entries.old.entries
-        (shown_plan T.rank walk.plan) (T.SafeLen.number walk.keys_outside) walk.above }
+        (shown_plan T.rank walk.plan) (T.SafeLen.number walk.keys_outside) walk.tail_value }
     ensures painted { IfOk result (λ len. IsTablePainted V.eq T.low T.high (T.SafeLen.number len)
         (entry (T.rank lo) (T.rank hi) value) entries.old.entries entries.new.entries) }
     ensures inside { IsInside V.eq (T.rank lo) (T.rank hi) value entries.old.entries
@@ -71,7 +71,7 @@ pub fn paint_planned<T: Integer, V: Eq + Drop>(
     let Walk {
         plan,
         keys_outside,
-        above,
+        tail_value,
         ..
     } = walk;
     if is_inside(plan, hi) {
@@ -84,7 +84,7 @@ pub fn paint_planned<T: Integer, V: Eq + Drop>(
             Ok(painted)
         }
         None => {
-            set_entry(entries, lo, value, plan, above)?;
+            set_entry(entries, lo, value, plan, tail_value)?;
             Ok(painted)
         }
     }

@@ -113,10 +113,10 @@ fn extended_by_value(rt: &HostRuntime, map: &mut Map) -> Result<(), AllocError> 
 }
 
 /// Extensions by a borrowed map.
-fn extended_by_lent(rt: &HostRuntime, map: &mut Map, other: &Map) -> Result<(), AllocError> {
+fn extended_by_borrowed(rt: &HostRuntime, map: &mut Map, other: &Map) -> Result<(), AllocError> {
     map.extend_with(other)?;
     map.bitor_assign_ref(other)?;
-    let _ = println!(rt; "lent: {map}");
+    let _ = println!(rt; "borrowed: {map}");
     Ok(())
 }
 
@@ -175,7 +175,7 @@ pub fn all(rt: &HostRuntime) -> Result<(), AllocError> {
     tens(rt)?;
     extended_by_pairs(rt, &mut map)?;
     extended_by_value(rt, &mut map)?;
-    extended_by_lent(rt, &mut map, &map_of_pairs(rt.alloc())?)?;
+    extended_by_borrowed(rt, &mut map, &map_of_pairs(rt.alloc())?)?;
     extended_from_none(rt)?;
     filled(rt)?;
     filled_table(rt)?;

@@ -7,7 +7,12 @@ use blaze_streams::{
 use std::alloc::AllocError;
 
 /// The values of two borrowed streams at the segments of a join.
-fn lent(rt: &HostRuntime, kind: JoinKind, one: &Letters, two: &Letters) -> Result<(), AllocError> {
+fn borrowed(
+    rt: &HostRuntime,
+    kind: JoinKind,
+    one: &Letters,
+    two: &Letters,
+) -> Result<(), AllocError> {
     let made = join_of(rt.alloc(), one.range_values(), two.range_values(), kind);
     let _ = print!(rt; "{kind:?} ");
     show(rt, "join_of", made)
@@ -59,9 +64,9 @@ fn of_few_lists(rt: &HostRuntime) -> Result<(), AllocError> {
 pub fn all(rt: &HostRuntime) -> Result<(), AllocError> {
     let one = map_of(rt.alloc(), &[(1, 5, 'a')])?;
     let two = map_of(rt.alloc(), &[(4, 8, 'b')])?;
-    lent(rt, JoinKind::Full, &one, &two)?;
-    lent(rt, JoinKind::Left, &one, &two)?;
-    lent(rt, JoinKind::Inner, &one, &two)?;
+    borrowed(rt, JoinKind::Full, &one, &two)?;
+    borrowed(rt, JoinKind::Left, &one, &two)?;
+    borrowed(rt, JoinKind::Inner, &one, &two)?;
     of_values(rt)?;
     of_three_lists(rt)?;
     of_few_lists(rt)

@@ -117,7 +117,11 @@ fn with_many(rt: &HostRuntime) -> Result<(), AllocError> {
 }
 
 /// An owned map of few entries, and a borrowed map and set of many: every piece is the last of its range.
-fn with_lent_many(rt: &HostRuntime, many: &Map, t: &RangeSetBlaze<i64>) -> Result<(), AllocError> {
+fn with_borrowed_many(
+    rt: &HostRuntime,
+    many: &Map,
+    t: &RangeSetBlaze<i64>,
+) -> Result<(), AllocError> {
     let alloc = rt.alloc();
     show(rt, "&many & a", many & few_below(alloc)?);
     show(rt, "a - &many", few(alloc)? - many);
@@ -135,7 +139,7 @@ fn operators(rt: &HostRuntime) -> Result<(), AllocError> {
         &RangeSetBlaze::from_ranges(alloc, vec![in alloc; 0..=9]?)?,
     )?;
     let t = RangeSetBlaze::from_ranges(alloc, even_keys(alloc)?)?;
-    with_lent_many(rt, &many(alloc)?, &t)
+    with_borrowed_many(rt, &many(alloc)?, &t)
 }
 
 /// Makes all calls of this file.

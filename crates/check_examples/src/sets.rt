@@ -3,7 +3,7 @@ use blaze_table::RangeSetBlaze;
 use std::alloc::AllocError;
 
 /// The last and the first range of a borrowed set.
-fn lent_ends(rt: &HostRuntime, set: &RangeSetBlaze<u8>) {
+fn borrowed_ends(rt: &HostRuntime, set: &RangeSetBlaze<u8>) {
     let mut ranges = set.ranges();
     let _ = println!(rt; "ranges: {:?} {:?}", ranges.next_back(), ranges.next());
 }
@@ -27,7 +27,7 @@ pub fn all(rt: &HostRuntime) -> Result<(), AllocError> {
     canonical(rt)?;
     let ranges = vec![in rt.alloc(); 8..=9, 1u8..=2, 4..=6]?;
     let set = RangeSetBlaze::from_ranges(rt.alloc(), ranges)?;
-    lent_ends(rt, &set);
+    borrowed_ends(rt, &set);
     owned_ends(rt, set);
     Ok(())
 }

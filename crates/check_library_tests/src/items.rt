@@ -30,7 +30,7 @@ fn entries_and_gaps(rt: HostRuntime) -> Result<(), Fail> {
 }
 
 #[test]
-fn keys_of_a_lent_table(rt: HostRuntime) -> Result<(), Fail> {
+fn keys_of_a_borrowed_table(rt: HostRuntime) -> Result<(), Fail> {
     let table = letters(rt.alloc())?;
     let mut iter = IterMap::new(RangeValuesIter::new(&table));
     assert_eq!(rt; iter.next(), Some((5, &'a')));

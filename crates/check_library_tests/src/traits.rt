@@ -127,13 +127,13 @@ fn gives<I: Iterator<Item = X> + FusedIterator, X>() {}
 
 fn gives_both_ends<I: DoubleEndedIterator + Iterator<Item = X> + FusedIterator, X>() {}
 
-type Lent<'a> = RangeValuesIter<'a, u8, char>;
+type Borrowed<'a> = RangeValuesIter<'a, u8, char>;
 
 /// The items of each iterator, and the ends from which it yields them.
 pub fn iterators() {
-    gives_both_ends::<IterMap<u8, &'static char, Lent<'static>>, (u8, &'static char)>();
-    gives_both_ends::<Keys<u8, &'static char, Lent<'static>>, u8>();
-    gives_both_ends::<Values<u8, &'static char, Lent<'static>>, &'static char>();
+    gives_both_ends::<IterMap<u8, &'static char, Borrowed<'static>>, (u8, &'static char)>();
+    gives_both_ends::<Keys<u8, &'static char, Borrowed<'static>>, u8>();
+    gives_both_ends::<Values<u8, &'static char, Borrowed<'static>>, &'static char>();
     gives::<Keys<u8, bool, CanonMapIter<u8, bool>>, u8>();
     gives_both_ends::<IntoIterMap<char, String>, Result<(char, String), AllocError>>();
     gives_both_ends::<IntoKeys<char, String>, char>();

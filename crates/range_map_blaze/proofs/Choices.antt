@@ -1,5 +1,5 @@
 -- What is chosen from two lists, carried along lists that are alike.
-use Rattle.range_map_blaze.proofs.Words.{◌≡◌, ℤ, Bool, List, Option, Some, None, is_some, refl, subst, ◌∙◌, option_xor, IsEquivalence, same_trans, same_along, Entry, at, SameOption, SameEntries, right_first, left_alone, IsChosen, absent, IsComplement, IsAlikeOff, content_as, back}
+use Rattle.range_map_blaze.proofs.Words.{◌≡◌, ℤ, Bool, List, Option, Some, None, is_some, refl, subst, ◌∙◌, option_xor, IsEquivalence, same_trans, same_along, Entry, at, SameOption, SameEntries, right_first, left_alone, IsChosen, value_if_none, IsComplement, IsAlikeOff, content_as, back}
 use Rattle.range_map_blaze.proofs.Streams.{range_map_as}
 
 -- the choice looks at the right one's presence alone
@@ -9,7 +9,7 @@ without_keys x None (Some b) p = cc
 without_keys x (Some a) None p = cc
 without_keys x (Some a) (Some b) p = refl
 
-absent_keys : {V A B : Type 0} (w : V) (y : Option A) (z : Option B) → is_some y ≡ is_some z → absent w y ≡ absent w z
+absent_keys : {V A B : Type 0} (w : V) (y : Option A) (z : Option B) → is_some y ≡ is_some z → value_if_none w y ≡ value_if_none w z
 absent_keys w None None p = refl
 absent_keys w None (Some b) p = cc
 absent_keys w (Some a) None p = cc

@@ -8,7 +8,7 @@ pub mod Made
 pub mod Choices
 pub mod Valued
 pub mod Unions
-pub mod LentValues
+pub mod BorrowedValues
 pub mod AllKeys
 pub mod JoinedKeys
 pub mod GapsWithin

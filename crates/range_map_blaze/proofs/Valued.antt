@@ -1,5 +1,5 @@
 -- One value on the ranges of a set.
-use Rattle.range_map_blaze.proofs.Words.{◌≡◌, ℤ, Bool, true, false, cond, List, [], ◌∷◌, ◌++◌, Option, Some, None, refl, ap, IsEquivalence, same_trans, Entry, entry, at, holds, SameOption, SameEntries, IsCanonical, IsApart, AreKeys, IsRangeMap, absent, IsComplement, unit_eq, IsRangeSet, content_as, canonical, one_per_run, back, unit_laws}
+use Rattle.range_map_blaze.proofs.Words.{◌≡◌, ℤ, Bool, true, false, cond, List, [], ◌∷◌, ◌++◌, Option, Some, None, refl, ap, IsEquivalence, same_trans, Entry, entry, at, holds, SameOption, SameEntries, IsCanonical, IsApart, AreKeys, IsRangeMap, value_if_none, IsComplement, unit_eq, IsRangeSet, content_as, canonical, one_per_run, back, unit_laws}
 use Rattle.range_map_blaze.proofs.Streams.{range_map_as}
 
 -- the ranges with a value
@@ -34,14 +34,14 @@ module _ {V : Type 0} (eq : V → V → Bool) (laws : IsEquivalence eq) (v : V) 
       keys = valued_keys low high rs s.keys;
     }
 
-    at_range : {A : Type 0} (b : Bool) (x : Option (Unit {0})) (y : Option V) (o : Option A) → (SameOption unit_eq x (absent tt o) → SameOption eq y (absent v o))
-        → SameOption unit_eq (cond b (Some tt) x) (absent tt o) → SameOption eq (cond b (Some v) y) (absent v o)
+    at_range : {A : Type 0} (b : Bool) (x : Option (Unit {0})) (y : Option V) (o : Option A) → (SameOption unit_eq x (value_if_none tt o) → SameOption eq y (value_if_none v o))
+        → SameOption unit_eq (cond b (Some tt) x) (value_if_none tt o) → SameOption eq (cond b (Some v) y) (value_if_none v o)
     at_range true x y None f s = laws.refl v
     at_range true x y (Some z) f s = s
     at_range false x y o f s = f s
 
     -- where the set has a key, the value is there, and nowhere else
-    same_absent : {A : Type 0} (rs : List (Entry (Unit {0}))) (k : ℤ) (o : Option A) → SameOption unit_eq (at rs k) (absent tt o) → SameOption eq (at (valued v rs) k) (absent v o)
+    same_absent : {A : Type 0} (rs : List (Entry (Unit {0}))) (k : ℤ) (o : Option A) → SameOption unit_eq (at rs k) (value_if_none tt o) → SameOption eq (at (valued v rs) k) (value_if_none v o)
     same_absent [] k None s = s
     same_absent [] k (Some x) s = s
     same_absent (r ∷ rs) k o s = at_range (holds r k) (at rs k) (at (valued v rs) k) o (same_absent rs k o) s

@@ -87,16 +87,16 @@ pub use Rattle.blaze_table.proofs.Walks.Worked.{counted_none, counted_then}
 pub use Rattle.blaze_table.specs.Canonical.{IsCanonical, AreKeys, IsRangeMap, IsApart, IsRunStart, HasEnd, IsDisjoint, IsAscending}
 pub use Rattle.blaze_table.specs.CanonicalOf.{keyed_count, IsCanonicalOf}
 pub use Rattle.blaze_table.specs.Chosen.{left_alone, left_with_right, IsChosen, right_first}
-pub use Rattle.blaze_table.specs.Complement.{absent, IsComplement}
+pub use Rattle.blaze_table.specs.Complement.{value_if_none, IsComplement}
 pub use Rattle.blaze_table.specs.Count.{mapped_keys, keys_in}
 pub use Rattle.blaze_table.specs.Counted.{CountedEntries, uncounted}
 pub use Rattle.blaze_table.specs.Cut.{cut_range_at, IsRangeCut, IsAmongOthers, IsLastKeyRemoved, IsFirstKeyRemoved}
 pub use Rattle.blaze_table.specs.Ending.{ending_from, overlapping}
 pub use Rattle.blaze_table.specs.Entries.{Entry, at, entry, SameOption, holds, SameEntries, entry_at, shown_entry, shown_list, SameContent, shown_range_entry}
 pub use Rattle.blaze_table.specs.Equality.{same_entries}
-pub use Rattle.blaze_table.specs.Filled.{filled, IsFilled}
+pub use Rattle.blaze_table.specs.Filled.{filled_content, IsFilled}
 pub use Rattle.blaze_table.specs.Gap.{IsClearFrom, IsGap}
-pub use Rattle.blaze_table.specs.Painted.{last_at, painted_in_order, IsInside, IsPainted, painted, LeavesAlone}
+pub use Rattle.blaze_table.specs.Painted.{last_at, painted_in_order, IsInside, IsPainted, painted_content, LeavesAlone}
 pub use Rattle.blaze_table.specs.Pairs.{pair_list, pairs_from, value_at}
 pub use Rattle.blaze_table.specs.RangeSets.{unit_eq, IsRangeSet, shown_bare_range, shown_bare_ranges}
 pub use Rattle.blaze_table.specs.Splice.{after, before, paint, glue, IsBelow}

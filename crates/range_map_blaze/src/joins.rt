@@ -1,7 +1,7 @@
 //! Joins of two maps, and a map with other values: the results of a closure that is called once for each segment or entry.
 ghost use Rattle.std.specs.Prelude.{◌≡◌, true, IfOk};
 ghost use Rattle.blaze_streams.specs.Answers.{values, EachValue, IsCallableAtEachValue, IsTransformed};
-ghost use Rattle.blaze_streams.specs.JoinAnswers.{either, both, with_left, IsCallableAtSegments};
+ghost use Rattle.blaze_streams.specs.JoinAnswers.{either, both, left_or_both, IsCallableAtSegments};
 ghost use Rattle.blaze_streams.specs.JoinAnswers.{IsJoined};
 ghost use Rattle.blaze_streams.specs.Joins.{is_joined, IsJoinOf};
 ghost use Rattle.blaze_streams.specs.declared.segmenting.joins.JoinKind.TheVariants.{Inner, Left, Full};
@@ -11,8 +11,8 @@ ghost use Rattle.range_map_blaze.specs.Made.{IsMade};
 use crate::map::RangeMapBlaze;
 use blaze_int::Integer;
 use blaze_streams::{
-    Asks, Both, CanonMapIter, Either, JoinKind, Owned, RangeValuesIter, SeekingRangeValuesIter,
-    SortedDisjointMap, ValueCarrier, Whole, WithLeft, join_of,
+    Asks, Both, CanonMapIter, Either, JoinKind, LeftOrBoth, Owned, RangeValuesIter,
+    SeekingRangeValuesIter, SortedDisjointMap, ValueCarrier, Whole, join_of,
 };
 use blaze_table::{RangeTable, push_entry};
 use std::alloc::{AllocError, Global};
@@ -188,12 +188,12 @@ impl<T: Integer, V: Eq + Clone> RangeMapBlaze<T, V> {
         other: &RangeMapBlaze<T, V2>,
         f: F,
     ) -> Result<RangeMapBlaze<T, W>, AllocError>
-        requires { IsCallableAtSegments (with_left (λ v. v.now) (λ v. v.now)) F.FnMut V.eq V2.eq
+        requires { IsCallableAtSegments (left_or_both (λ v. v.now) (λ v. v.now)) F.FnMut V.eq V2.eq
             T.low T.high Left f self.now.entries other.now.entries }
-        ensures { IfOk result (IsMade (IsJoined (with_left (λ v. v.now) (λ v. v.now)) F.FnMut V.eq
+        ensures { IfOk result (IsMade (IsJoined (left_or_both (λ v. v.now) (λ v. v.now)) F.FnMut V.eq
             V2.eq T.low T.high Left W.eq f self.now.entries other.now.entries)) }
     {
-        joined::<T, V, V2, W, F, WithLeft>(
+        joined::<T, V, V2, W, F, LeftOrBoth>(
             self.allocator(),
             &self.table,
             &other.table,

@@ -1,6 +1,6 @@
 //! The laws of bulk changes, of keys taken and put back, of joins and `transform_values`, and of a range changed by a function.
 ghost use Rattle.blaze_streams.specs.Carried.{shown_option};
-ghost use Rattle.blaze_streams.specs.JoinAnswers.{either, both, with_left};
+ghost use Rattle.blaze_streams.specs.JoinAnswers.{either, both, left_or_both};
 ghost use Rattle.range_map_blaze.specs.MapLaws.{AnswersAreOnItsKeys, FillingIsUnion, FullJoinIsInnerJoin};
 ghost use Rattle.range_map_blaze.specs.MapLaws.{LeftJoinIsOnTheLeftKeys, PaintingInTurnExtends, TakingIsUndone};
 ghost use Rattle.range_map_blaze.specs.TryLaws.{TryIsPlain};
@@ -46,7 +46,7 @@ pub fn try_transform_values_is_transform_values<
 
 /// `left_join` has the keys of the left map, and so its `len`.
 pub fn left_join_has_left_keys<T: Integer, V: Eq, V2: Eq, W: Eq, F: FnMut(&V, Option<&V2>) -> W>()
-    ensures { LeftJoinIsOnTheLeftKeys (with_left (λ v. v.now) (λ v. v.now)) F.FnMut V.eq V2.eq
+    ensures { LeftJoinIsOnTheLeftKeys (left_or_both (λ v. v.now) (λ v. v.now)) F.FnMut V.eq V2.eq
         W.eq T.low T.high }
 {}
 

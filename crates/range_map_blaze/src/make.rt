@@ -10,7 +10,9 @@ ghost use Rattle.range_map_blaze.specs.Extended.{shown_point};
 ghost use Rattle.range_map_blaze.specs.Made.{IsMade};
 
 use crate::map::RangeMapBlaze;
-use crate::pairs::{LentPair, Pair, lent_pairs_of, map_of_lent_pairs, map_of_pairs, pairs_of};
+use crate::pairs::{
+    BorrowedPair, Pair, borrowed_pairs_of, map_of_borrowed_pairs, map_of_pairs, pairs_of,
+};
 use blaze_int::Integer;
 use blaze_streams::{SortedDisjointMap, ValueCarrier};
 use blaze_table::RangeTable;
@@ -33,11 +35,11 @@ fn map_of<T: Integer, V: Eq + Clone, P: Pair<T, V>, I: IntoIterator<Item = P>>(
 }
 
 /// The map of the borrowed pairs of an iterable, in order. All constructors from borrowed pairs or values call it.
-fn map_of_lent<
+fn map_of_borrowed<
     'a,
     T: Integer,
     V: Eq + Clone + 'a,
-    P: LentPair<'a, T, V>,
+    P: BorrowedPair<'a, T, V>,
     I: IntoIterator<Item = P>,
 >(alloc: Global, iter: I) -> Result<RangeMapBlaze<T, V>, AllocError>
     requires ends { IsFiniteIterable I.into_iter_gives I.IntoIter.can_next
@@ -46,8 +48,8 @@ fn map_of_lent<
     ensures { IfOk result (IsMade (CollectsItems I.into_iter_gives I.IntoIter.next_gives
         (λ items. IsCanonicalOf V.eq T.low T.high (map P.pair items)) iter)) }
 {
-    let pairs = lent_pairs_of(alloc, iter)?;
-    map_of_lent_pairs(alloc, pairs)
+    let pairs = borrowed_pairs_of(alloc, iter)?;
+    map_of_borrowed_pairs(alloc, pairs)
 }
 
 impl<T: Integer, V: Eq + Clone> RangeMapBlaze<T, V> {
@@ -114,7 +116,7 @@ impl<T: Integer, V: Eq + Clone> RangeMapBlaze<T, V> {
             (λ items. IsCanonicalOf V.eq T.low T.high
             (map (shown_point T.rank (λ v. v.now)) items)) iter)) }
     {
-        map_of_lent(alloc, iter)
+        map_of_borrowed(alloc, iter)
     }
 
     /// Returns the map of the pairs, each a range with a reference to its value. A later pair replaces an earlier one. A pair
@@ -140,7 +142,7 @@ impl<T: Integer, V: Eq + Clone> RangeMapBlaze<T, V> {
             (λ items. IsCanonicalOf V.eq T.low T.high
             (map (shown_range T.rank (λ v. v.now)) items)) iter)) }
     {
-        map_of_lent(alloc, iter)
+        map_of_borrowed(alloc, iter)
     }
 
     /// Returns the map of borrowed pairs, each a key with its value. A later pair replaces an earlier one. Each entry has a clone
@@ -166,7 +168,7 @@ impl<T: Integer, V: Eq + Clone> RangeMapBlaze<T, V> {
             (λ items. IsCanonicalOf V.eq T.low T.high
             (map (λ p. shown_point T.rank (λ v. v) p.now) items)) iter)) }
     {
-        map_of_lent(alloc, iter)
+        map_of_borrowed(alloc, iter)
     }
 
     /// Returns the map of borrowed pairs, each a range with its value. A later pair replaces an earlier one. A pair whose start
@@ -193,7 +195,7 @@ impl<T: Integer, V: Eq + Clone> RangeMapBlaze<T, V> {
             (λ items. IsCanonicalOf V.eq T.low T.high
             (map (λ p. shown_range T.rank (λ v. v) p.now) items)) iter)) }
     {
-        map_of_lent(alloc, iter)
+        map_of_borrowed(alloc, iter)
     }
 
     /// Returns the map of borrowed pairs, each a key with a reference to its value. A later pair replaces an earlier one. Each
@@ -219,7 +221,7 @@ impl<T: Integer, V: Eq + Clone> RangeMapBlaze<T, V> {
             (λ items. IsCanonicalOf V.eq T.low T.high
             (map (λ p. shown_point T.rank (λ v. v.now) p.now) items)) iter)) }
     {
-        map_of_lent(alloc, iter)
+        map_of_borrowed(alloc, iter)
     }
 
     /// Returns the map of borrowed pairs, each a range with a reference to its value. A later pair replaces an earlier one. A
@@ -246,7 +248,7 @@ impl<T: Integer, V: Eq + Clone> RangeMapBlaze<T, V> {
             (λ items. IsCanonicalOf V.eq T.low T.high
             (map (λ p. shown_range T.rank (λ v. v.now) p.now) items)) iter)) }
     {
-        map_of_lent(alloc, iter)
+        map_of_borrowed(alloc, iter)
     }
 
     /// Returns the map of an array of pairs, each a key with its value. A later pair replaces an earlier one. Values are moved.

@@ -63,7 +63,7 @@ pub(crate) fn pairs_of<T: Integer, V: Drop, P: Pair<T, V>, I: IntoIterator<Item 
 }
 
 /// A key or a range with a value, where the pair or its value is borrowed.
-pub trait LentPair<'a, T: Integer, V>: Drop {
+pub trait BorrowedPair<'a, T: Integer, V>: Drop {
     // The pair as an entry.
     ghost pair: { Self → Entry V };
 
@@ -72,7 +72,7 @@ pub trait LentPair<'a, T: Integer, V>: Drop {
         ensures { shown_entry T.rank (λ v. v.now) result ≡ pair self };
 }
 
-impl<'a, T: Integer, V> LentPair<'a, T, V> for (T, &'a V) {
+impl<'a, T: Integer, V> BorrowedPair<'a, T, V> for (T, &'a V) {
     ghost pair = { shown_point T.rank (λ v. v.now) };
 
     fn parts(self) -> (T, T, &'a V) {
@@ -81,7 +81,7 @@ impl<'a, T: Integer, V> LentPair<'a, T, V> for (T, &'a V) {
     }
 }
 
-impl<'a, T: Integer, V> LentPair<'a, T, V> for &'a (T, V) {
+impl<'a, T: Integer, V> BorrowedPair<'a, T, V> for &'a (T, V) {
     ghost pair = { λ p. shown_point T.rank (λ v. v) p.now };
 
     fn parts(self) -> (T, T, &'a V) {
@@ -90,7 +90,7 @@ impl<'a, T: Integer, V> LentPair<'a, T, V> for &'a (T, V) {
     }
 }
 
-impl<'a, T: Integer, V> LentPair<'a, T, V> for &'a (T, &'a V) {
+impl<'a, T: Integer, V> BorrowedPair<'a, T, V> for &'a (T, &'a V) {
     ghost pair = { λ p. shown_point T.rank (λ v. v.now) p.now };
 
     fn parts(self) -> (T, T, &'a V) {
@@ -99,7 +99,7 @@ impl<'a, T: Integer, V> LentPair<'a, T, V> for &'a (T, &'a V) {
     }
 }
 
-impl<'a, T: Integer, V> LentPair<'a, T, V> for (RangeInclusive<T>, &'a V) {
+impl<'a, T: Integer, V> BorrowedPair<'a, T, V> for (RangeInclusive<T>, &'a V) {
     ghost pair = { shown_range T.rank (λ v. v.now) };
 
     fn parts(self) -> (T, T, &'a V) {
@@ -109,7 +109,7 @@ impl<'a, T: Integer, V> LentPair<'a, T, V> for (RangeInclusive<T>, &'a V) {
     }
 }
 
-impl<'a, T: Integer, V> LentPair<'a, T, V> for &'a (RangeInclusive<T>, V) {
+impl<'a, T: Integer, V> BorrowedPair<'a, T, V> for &'a (RangeInclusive<T>, V) {
     ghost pair = { λ p. shown_range T.rank (λ v. v) p.now };
 
     fn parts(self) -> (T, T, &'a V) {
@@ -118,7 +118,7 @@ impl<'a, T: Integer, V> LentPair<'a, T, V> for &'a (RangeInclusive<T>, V) {
     }
 }
 
-impl<'a, T: Integer, V> LentPair<'a, T, V> for &'a (RangeInclusive<T>, &'a V) {
+impl<'a, T: Integer, V> BorrowedPair<'a, T, V> for &'a (RangeInclusive<T>, &'a V) {
     ghost pair = { λ p. shown_range T.rank (λ v. v.now) p.now };
 
     fn parts(self) -> (T, T, &'a V) {
@@ -128,10 +128,13 @@ impl<'a, T: Integer, V> LentPair<'a, T, V> for &'a (RangeInclusive<T>, &'a V) {
 }
 
 /// The pairs of an iterable, in order. If an allocation fails, the other pairs are dropped.
-pub(crate) fn lent_pairs_of<'a, T: Integer, V, P: LentPair<'a, T, V>, I: IntoIterator<Item = P>>(
-    alloc: Global,
-    iter: I,
-) -> Result<Vec<(T, T, &'a V)>, AllocError>
+pub(crate) fn borrowed_pairs_of<
+    'a,
+    T: Integer,
+    V,
+    P: BorrowedPair<'a, T, V>,
+    I: IntoIterator<Item = P>,
+>(alloc: Global, iter: I) -> Result<Vec<(T, T, &'a V)>, AllocError>
     requires { IsFiniteIterable I.into_iter_gives I.IntoIter.can_next I.IntoIter.remaining iter }
     ensures { IfOk result (λ pairs. CollectsItems I.into_iter_gives I.IntoIter.next_gives
         (λ items list. map (shown_entry T.rank (λ v. v.now)) list
@@ -175,22 +178,22 @@ pub(crate) fn push_clone<T: Integer, V: Eq + Clone>(
 /// Entries with clones of borrowed values.
 fn cloned<T: Integer, V: Eq + Clone>(
     alloc: Global,
-    lent: Vec<(T, T, &V)>,
+    borrowed: Vec<(T, T, &V)>,
 ) -> Result<Vec<(T, T, V)>, AllocError>
     requires { ClonesAreAlike V.is_clone V.eq }
     ensures { IfOk result
-        (λ entries. SameEntries V.eq (map (shown_entry T.rank (λ v. v.now)) lent.entry.items)
+        (λ entries. SameEntries V.eq (map (shown_entry T.rank (λ v. v.now)) borrowed.entry.items)
         (shown_list T.rank entries.items)) }
 {
     let mut entries = Vec::new(alloc);
-    for (start, end, value) in lent {
+    for (start, end, value) in borrowed {
         push_clone(&mut entries, start, end, value)?;
     }
     Ok(entries)
 }
 
 /// The map of pairs with borrowed values, painted in order. Only what remains is cloned: the value of each entry.
-pub(crate) fn map_of_lent_pairs<T: Integer, V: Eq + Clone>(
+pub(crate) fn map_of_borrowed_pairs<T: Integer, V: Eq + Clone>(
     alloc: Global,
     pairs: Vec<(T, T, &V)>,
 ) -> Result<RangeMapBlaze<T, V>, AllocError>
@@ -198,8 +201,8 @@ pub(crate) fn map_of_lent_pairs<T: Integer, V: Eq + Clone>(
     ensures { IfOk result (IsMade (IsCanonicalOf V.eq T.low T.high
         (map (shown_entry T.rank (λ v. v.now)) pairs.entry.items))) }
 {
-    let lent = canonical_of(alloc, pairs)?;
-    let entries = cloned(alloc, lent)?;
+    let borrowed = canonical_of(alloc, pairs)?;
+    let entries = cloned(alloc, borrowed)?;
     let table = RangeTable::from_canonical(alloc, entries)?;
     Ok(RangeMapBlaze { table })
 }

@@ -2,7 +2,7 @@
 ghost use Rattle.std.specs.Prelude.{IfOk};
 ghost use Rattle.blaze_streams.specs.Answers.{values, IsCallableAtEachValue, IsTransformed};
 ghost use Rattle.blaze_streams.specs.Fallible.{ok_calls};
-ghost use Rattle.blaze_streams.specs.JoinAnswers.{either, both, with_left, IsCallableAtSegments};
+ghost use Rattle.blaze_streams.specs.JoinAnswers.{either, both, left_or_both, IsCallableAtSegments};
 ghost use Rattle.blaze_streams.specs.JoinAnswers.{IsJoined};
 ghost use Rattle.blaze_streams.specs.declared.segmenting.joins.JoinKind.TheVariants.{Inner, Left, Full};
 ghost use Rattle.range_map_blaze.specs.Made.{IsMade};
@@ -10,7 +10,7 @@ ghost use Rattle.range_map_blaze.specs.Made.{IsMade};
 use crate::joins::{joined, transformed};
 use crate::map::RangeMapBlaze;
 use blaze_int::Integer;
-use blaze_streams::{Both, Either, Fallible, JoinKind, Whole, WithLeft};
+use blaze_streams::{Both, Either, Fallible, JoinKind, LeftOrBoth, Whole};
 use std::alloc::AllocError;
 
 impl<T: Integer, V: Eq + Clone> RangeMapBlaze<T, V> {
@@ -81,13 +81,13 @@ impl<T: Integer, V: Eq + Clone> RangeMapBlaze<T, V> {
         W: Eq + Clone,
         F: FnMut(&V, Option<&V2>) -> Result<W, AllocError>,
     >(&self, other: &RangeMapBlaze<T, V2>, f: F) -> Result<RangeMapBlaze<T, W>, AllocError>
-        requires { IsCallableAtSegments (with_left (λ v. v.now) (λ v. v.now)) (ok_calls F.FnMut)
+        requires { IsCallableAtSegments (left_or_both (λ v. v.now) (λ v. v.now)) (ok_calls F.FnMut)
             V.eq V2.eq T.low T.high Left f self.now.entries other.now.entries }
-        ensures { IfOk result (IsMade (IsJoined (with_left (λ v. v.now) (λ v. v.now))
+        ensures { IfOk result (IsMade (IsJoined (left_or_both (λ v. v.now) (λ v. v.now))
             (ok_calls F.FnMut) V.eq V2.eq T.low T.high Left W.eq f self.now.entries
             other.now.entries)) }
     {
-        joined::<T, V, V2, W, F, Fallible<WithLeft>>(
+        joined::<T, V, V2, W, F, Fallible<LeftOrBoth>>(
             self.allocator(),
             &self.table,
             &other.table,

@@ -46,7 +46,7 @@ pub extern "C" fn range_map_paint_unchecked(
         Err(_) => return NO_MEMORY,
     };
     let painted = boxed.map.ranges_insert(lo..=hi, value);
-    map.put(boxed);
+    map.set_map(boxed);
     match painted {
         Ok(answer) => {
             *changed = answer;
@@ -87,7 +87,7 @@ pub extern "C" fn range_map_fill_unchecked(
         Err(_) => return NO_MEMORY,
     };
     let filled = boxed.map.ranges_insert_absent(lo..=hi, value);
-    map.put(boxed);
+    map.set_map(boxed);
     match filled {
         Ok(answer) => {
             *changed = answer;
@@ -119,7 +119,7 @@ pub extern "C" fn range_map_insert_unchecked(
         Err(_) => return NO_MEMORY,
     };
     let inserted = boxed.map.insert(key, value);
-    map.put(boxed);
+    map.set_map(boxed);
     match inserted {
         Ok(answer) => {
             tell(answer, had, old);

@@ -72,7 +72,7 @@ fn combine_all(alloc: Global, map: &mut RangeMap, lo: i64, hi: i64, value: u64, 
         Err(_) => return NO_MEMORY,
     };
     let outcome = combine(&mut boxed.map, lo, hi, value, op, ALL);
-    map.put(boxed);
+    map.set_map(boxed);
     status_of(outcome)
 }
 

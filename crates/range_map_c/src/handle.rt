@@ -106,7 +106,7 @@ impl RangeMap {
     }
 
     /// Replaces the map.
-    pub fn put(&mut self, boxed: Box<Map>)
+    pub fn set_map(&mut self, boxed: Box<Map>)
         ensures { self.new.entries ≡ boxed.value.map.entries }
     {
         *self = RangeMap::of_parts(Parts::of(boxed));
@@ -210,7 +210,7 @@ pub fn hand_out(
     }
     match boxed_map(map, alloc) {
         Ok(boxed) => {
-            out.put(boxed);
+            out.set_map(boxed);
             DONE
         }
         Err(_) => NO_MEMORY,

@@ -201,7 +201,7 @@ fn split_map(alloc: Global, map: &mut RangeMapBlaze<i64, u64>, key: i64, out: &m
     match map.split_off(key) {
         Ok(from) => {
             room.map = from;
-            out.put(room);
+            out.set_map(room);
             DONE
         }
         Err(_) => NO_MEMORY,

@@ -1,5 +1,5 @@
 -- The content of entries whose values are texts.
-use Rattle.range_map_cli.proofs.Words.{◌≡◌, ℕ, ℤ, List, true, false, Bool, cond, refl, sym, ap, ◌∙◌, Option, Some, None, string_bytes, int_le, ◌&&◌, option_map, String, Global, string_eq, bytes_decides, option_or, int_eq, same_Some, Entry, at, SameOption, filled, painted, cut_at, content_of}
+use Rattle.range_map_cli.proofs.Words.{◌≡◌, ℕ, ℤ, List, true, false, Bool, cond, refl, sym, ap, ◌∙◌, Option, Some, None, string_bytes, int_le, ◌&&◌, option_map, String, Global, string_eq, bytes_decides, option_or, int_eq, same_Some, Entry, at, SameOption, filled_content, painted_content, cut_at, content_of}
 
 -- equal texts have the same bytes
 pub same_words : (a b : Option (String Global)) → SameOption string_eq a b → option_map string_bytes a ≡ option_map string_bytes b
@@ -20,11 +20,11 @@ words_if true text old = refl
 words_if false text old = refl
 
 -- the words are painted
-pub content_of-painted : (lo hi : ℤ) (text : String Global) (word : List ℕ) (old new : List (Entry (String Global))) → ((k : ℤ) → SameOption string_eq (at new k) (painted lo hi text (at old) k))
-    → string_bytes text ≡ word → (k : ℤ) → content_of new k ≡ painted lo hi word (content_of old) k
+pub content_of-painted : (lo hi : ℤ) (text : String Global) (word : List ℕ) (old new : List (Entry (String Global))) → ((k : ℤ) → SameOption string_eq (at new k) (painted_content lo hi text (at old) k))
+    → string_bytes text ≡ word → (k : ℤ) → content_of new k ≡ painted_content lo hi word (content_of old) k
 content_of-painted lo hi text word old new same is k =
     let t = int_le lo k && int_le k hi in
-    same_words (at new k) (painted lo hi text (at old) k) (same k) ∙ words_if t text (at old k) ∙ ap (λ w. cond t (Some w) (content_of old k)) is
+    same_words (at new k) (painted_content lo hi text (at old) k) (same k) ∙ words_if t text (at old k) ∙ ap (λ w. cond t (Some w) (content_of old k)) is
 
 pub words_or : (t : Bool) (text : String Global) (old : Option (String Global)) → option_map string_bytes (option_or old (cond t (Some text) None)) ≡ option_or (option_map string_bytes old) (cond t (Some (string_bytes text)) None)
 words_or t text (Some old) = refl
@@ -32,11 +32,11 @@ words_or true text None = refl
 words_or false text None = refl
 
 -- the keys that have no word are filled
-pub content_of-filled : (lo hi : ℤ) (text : String Global) (word : List ℕ) (old new : List (Entry (String Global))) → ((k : ℤ) → SameOption string_eq (at new k) (filled lo hi text (at old) k))
-    → string_bytes text ≡ word → (k : ℤ) → content_of new k ≡ filled lo hi word (content_of old) k
+pub content_of-filled : (lo hi : ℤ) (text : String Global) (word : List ℕ) (old new : List (Entry (String Global))) → ((k : ℤ) → SameOption string_eq (at new k) (filled_content lo hi text (at old) k))
+    → string_bytes text ≡ word → (k : ℤ) → content_of new k ≡ filled_content lo hi word (content_of old) k
 content_of-filled lo hi text word old new same is k =
     let t = int_le lo k && int_le k hi in
-    same_words (at new k) (filled lo hi text (at old) k) (same k) ∙ words_or t text (at old k) ∙ ap (λ w. option_or (content_of old k) (cond t (Some w) None)) is
+    same_words (at new k) (filled_content lo hi text (at old) k) (same k) ∙ words_or t text (at old k) ∙ ap (λ w. option_or (content_of old k) (cond t (Some w) None)) is
 
 no_word_if : (t : Bool) (old : Option (String Global)) → option_map string_bytes (cond t None old) ≡ cond t None (option_map string_bytes old)
 no_word_if true old = refl

@@ -1,5 +1,5 @@
 -- A command that a step does: the step's answer is what is printed, and the content is the command's.
-use Rattle.range_map_cli.proofs.Words.{◌≡◌, ◌∙◌, ℤ, List, Bool, true, false, cond, not, eqb, codes, refl, sym, ap, Option, Some, None, IfSome, string_bytes, option_map, int_le, ◌&&◌, string_eq, String, Global, mapped_keys, Entry, at, filled, painted, answer_text, command_done, changed_text, content_after_command, greatest_key, least_key, line, Content, Replies, word_or_dash, content_of, answer, IsStepped, SameAnswer, Step, Paint, Fill, Insert, Remove, PopFirst, PopLast, Clear, KeepBelow, KeepFrom, Or, And, Minus, Xor, AndSet, MinusSet, ComplementWith, Answer, Wrote, Old, Popped, Done}
+use Rattle.range_map_cli.proofs.Words.{◌≡◌, ◌∙◌, ℤ, List, Bool, true, false, cond, not, eqb, codes, refl, sym, ap, Option, Some, None, IfSome, string_bytes, option_map, int_le, ◌&&◌, string_eq, String, Global, mapped_keys, Entry, at, filled_content, painted_content, answer_text, command_done, changed_text, content_after_command, greatest_key, least_key, line, Content, Replies, word_or_dash, content_of, answer, IsStepped, SameAnswer, Step, Paint, Fill, Insert, Remove, PopFirst, PopLast, Clear, KeepBelow, KeepFrom, Or, And, Minus, Xor, AndSet, MinusSet, ComplementWith, Answer, Wrote, Old, Popped, Done}
 use Rattle.range_map_cli.proofs.Contents.{content_of-cut, content_of-filled, content_of-painted, same_words, words_if, words_or}
 use Rattle.range_map_cli.proofs.Counting.{mapped_count-is}
 
@@ -22,11 +22,11 @@ was word old k same = ap (λ w. line (word_or_dash w)) (same_words word (at old 
 module _ {L : Type 0} where
   pub replied : (step : Step ℤ (String Global) L) (old : List (Entry (String Global))) (given : Answer ℤ (String Global)) → SameAnswer (λ z. z) string_eq given (answer (λ z. z) least_key greatest_key step (at old))
       → IfSome (command_done step) (λ command. Replies (content_of old) command (answer_text given))
-  replied (Paint lo hi word) old (Wrote changed) same = wrote changed (painted lo hi word (at old)) (painted lo hi (string_bytes word) (content_of old)) old (λ k. words_if (int_le lo k && int_le k hi) word (at old k)) same
+  replied (Paint lo hi word) old (Wrote changed) same = wrote changed (painted_content lo hi word (at old)) (painted_content lo hi (string_bytes word) (content_of old)) old (λ k. words_if (int_le lo k && int_le k hi) word (at old k)) same
   replied (Paint lo hi word) old (Old was) same = absurd same
   replied (Paint lo hi word) old (Popped pair) same = absurd same
   replied (Paint lo hi word) old Done same = absurd same
-  replied (Fill lo hi word) old (Wrote changed) same = wrote changed (filled lo hi word (at old)) (filled lo hi (string_bytes word) (content_of old)) old (λ k. words_or (int_le lo k && int_le k hi) word (at old k)) same
+  replied (Fill lo hi word) old (Wrote changed) same = wrote changed (filled_content lo hi word (at old)) (filled_content lo hi (string_bytes word) (content_of old)) old (λ k. words_or (int_le lo k && int_le k hi) word (at old k)) same
   replied (Fill lo hi word) old (Old was) same = absurd same
   replied (Fill lo hi word) old (Popped pair) same = absurd same
   replied (Fill lo hi word) old Done same = absurd same

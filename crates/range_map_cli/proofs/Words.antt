@@ -54,15 +54,15 @@ pub use Rattle.blaze_table.proofs.Walks.Worked.{counted_none, counted_then}
 pub use Rattle.blaze_table.specs.Canonical.{IsRunStart, IsRunEnd, IsRangeMap, IsOnePerRun, IsDisjoint, IsAscending, IsClear, HasStart, HasEnd, AreKeys}
 pub use Rattle.blaze_table.specs.CanonicalOf.{keyed_count}
 pub use Rattle.blaze_table.specs.Chosen.{right_first, IsChosen, left_with_right, left_alone}
-pub use Rattle.blaze_table.specs.Complement.{absent, IsComplement}
+pub use Rattle.blaze_table.specs.Complement.{value_if_none, IsComplement}
 pub use Rattle.blaze_table.specs.Count.{mapped_keys, keys_in}
 pub use Rattle.blaze_table.specs.Counted.{CountedEntries}
 pub use Rattle.blaze_table.specs.Cut.{below_at, from_at, cut_at}
 pub use Rattle.blaze_table.specs.Entries.{Entry, entry, at, entry_at, holds, SameOption, SameEntries, SameContent}
 pub use Rattle.blaze_table.specs.Equality.{same_entries}
-pub use Rattle.blaze_table.specs.Filled.{filled, IsFilled}
+pub use Rattle.blaze_table.specs.Filled.{filled_content, IsFilled}
 pub use Rattle.blaze_table.specs.Gap.{IsGap}
-pub use Rattle.blaze_table.specs.Painted.{last_at, painted_in_order, painted, IsPainted}
+pub use Rattle.blaze_table.specs.Painted.{last_at, painted_in_order, painted_content, IsPainted}
 pub use Rattle.blaze_table.specs.Pairs.{value_at, IsAscendingPairs, pairs_from, pairs_of, pair_list}
 pub use Rattle.blaze_table.specs.Work.{IsCounted, PutsAtMost, IsCountedCut}
 pub use Rattle.range_map_blaze.proofs.Order.MapOrder.{order_of_pairs, ties_where_equal}

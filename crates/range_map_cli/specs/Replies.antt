@@ -5,8 +5,8 @@ use Rattle.std.specs.Str.{bytes_eq}
 use Rattle.blaze_table.specs.Entries.{Entry, at}
 use Rattle.blaze_table.specs.Canonical.{IsOnePerRun}
 use Rattle.blaze_table.specs.Count.{mapped_keys}
-use Rattle.blaze_table.specs.Filled.{filled}
-use Rattle.blaze_table.specs.Painted.{painted}
+use Rattle.blaze_table.specs.Filled.{filled_content}
+use Rattle.blaze_table.specs.Painted.{painted_content}
 use Rattle.blaze_table.specs.Cut.{cut_at}
 use Rattle.range_map_cli.specs.Commands.{Command, Blank, Paint, Fill, Insert, Remove, Get, At, Len, Entries}
 use Rattle.range_map_cli.specs.Pieces.{IsGreatestPiece}
@@ -34,9 +34,9 @@ mapped_count content = mapped_keys least_key greatest_key content
 -- the content after a command
 abbrev pub content_after_command : Command → Content → Content
 content_after_command Blank content = content
-content_after_command (Paint lo hi word) content = painted lo hi word content
-content_after_command (Fill lo hi word) content = filled lo hi word content
-content_after_command (Insert key word) content = painted key key word content
+content_after_command (Paint lo hi word) content = painted_content lo hi word content
+content_after_command (Fill lo hi word) content = filled_content lo hi word content
+content_after_command (Insert key word) content = painted_content key key word content
 content_after_command (Remove key) content = cut_at key content
 content_after_command (Get key) content = content
 content_after_command (At key) content = content
@@ -76,8 +76,8 @@ changed_text new old = line (if mapped_count new == mapped_count old then codes 
 -- the text is printed for the command
 abbrev pub Replies : Content → Command → List ℕ → Type 0
 Replies content Blank text = text ≡ []
-Replies content (Paint lo hi word) text = text ≡ changed_text (painted lo hi word content) content
-Replies content (Fill lo hi word) text = text ≡ changed_text (filled lo hi word content) content
+Replies content (Paint lo hi word) text = text ≡ changed_text (painted_content lo hi word content) content
+Replies content (Fill lo hi word) text = text ≡ changed_text (filled_content lo hi word content) content
 Replies content (Insert key word) text = text ≡ line (word_or_dash (content key))
 Replies content (Remove key) text = text ≡ line (word_or_dash (content key))
 Replies content (Get key) text = text ≡ line (word_or_dash (content key))

@@ -6,11 +6,11 @@ use Rattle.blaze_table.specs.Counted.{CountedEntries}
 use Rattle.blaze_table.specs.Entries.{Entry, at, SameOption}
 use Rattle.blaze_table.specs.Canonical.{IsRangeMap}
 use Rattle.blaze_table.specs.Chosen.{right_first, left_with_right, left_alone}
-use Rattle.blaze_table.specs.Complement.{absent}
+use Rattle.blaze_table.specs.Complement.{value_if_none}
 use Rattle.blaze_table.specs.Count.{mapped_keys}
 use Rattle.blaze_table.specs.Cut.{cut_at, below_at, from_at}
-use Rattle.blaze_table.specs.Filled.{filled}
-use Rattle.blaze_table.specs.Painted.{painted}
+use Rattle.blaze_table.specs.Filled.{filled_content}
+use Rattle.blaze_table.specs.Painted.{painted_content}
 use Rattle.blaze_table.specs.Work.{IsCounted}
 use Rattle.range_map_cli.specs.declared.step.Step.{Step}
 use Rattle.range_map_cli.specs.declared.step.Step.TheVariants.{Paint, Fill, Insert, Remove, PopFirst, PopLast, Clear, KeepBelow, KeepFrom, Or, And, Minus, Xor, AndSet, MinusSet, ComplementWith}
@@ -54,7 +54,7 @@ last_mapped_key low high content = greatest_mapped content high (nat_of (high -�
 
 -- a value on the keys that have none, and none on the others
 abbrev pub complemented : {V : Type 0} → ℤ → ℤ → V → (ℤ → Option V) → ℤ → Option V
-complemented low high v content k = if int_le low k && int_le k high then absent v (content k) else None
+complemented low high v content k = if int_le low k && int_le k high then value_if_none v (content k) else None
 
 -- a range map has the content of the old one without a key, if there is one
 pub record IsWithout {V : Type 0} (eq : V → V → Bool) (low high : ℤ) (key : Option ℤ) (old new : List (Entry V)) : Type 0 where
@@ -66,9 +66,9 @@ module _ {T V L : Type 0} (rank : T → ℤ) (low high : ℤ) where
 
   -- the content after a step
   abbrev pub content_after : Step T V L → (ℤ → Option V) → ℤ → Option V
-  content_after (Paint lo hi v) content = painted (rank lo) (rank hi) v content
-  content_after (Fill lo hi v) content = filled (rank lo) (rank hi) v content
-  content_after (Insert k v) content = painted (rank k) (rank k) v content
+  content_after (Paint lo hi v) content = painted_content (rank lo) (rank hi) v content
+  content_after (Fill lo hi v) content = filled_content (rank lo) (rank hi) v content
+  content_after (Insert k v) content = painted_content (rank k) (rank k) v content
   content_after (Remove k) content = cut_at (rank k) content
   content_after PopFirst content = without_key (first_mapped_key low high content) content
   content_after PopLast content = without_key (last_mapped_key low high content) content
@@ -85,8 +85,8 @@ module _ {T V L : Type 0} (rank : T → ℤ) (low high : ℤ) where
 
   -- the answer of a step on a content: keys are given by their ranks
   abbrev pub answer : Step T V L → (ℤ → Option V) → Answer ℤ V
-  answer (Paint lo hi v) content = Wrote (not (mapped_keys low high (painted (rank lo) (rank hi) v content) == mapped_keys low high content))
-  answer (Fill lo hi v) content = Wrote (not (mapped_keys low high (filled (rank lo) (rank hi) v content) == mapped_keys low high content))
+  answer (Paint lo hi v) content = Wrote (not (mapped_keys low high (painted_content (rank lo) (rank hi) v content) == mapped_keys low high content))
+  answer (Fill lo hi v) content = Wrote (not (mapped_keys low high (filled_content (rank lo) (rank hi) v content) == mapped_keys low high content))
   answer (Insert k v) content = Old (content (rank k))
   answer (Remove k) content = Old (content (rank k))
   answer PopFirst content = Popped (key_with_value content (first_mapped_key low high content))

@@ -43,7 +43,11 @@ pub fn flush<W: Write>(waiting: &mut Vec<u8>, output: &mut W) -> Result<(), Writ
 
 /// Appends a text to the bytes that wait. If there is no space for it, writes those bytes first, and a text with no space at all
 /// right after them. If it fails, a first part of the bytes and the text was written, perhaps nothing, but not all.
-pub fn put<W: Write>(waiting: &mut Vec<u8>, output: &mut W, text: &[u8]) -> Result<(), WriteFailed>
+pub fn append_output<W: Write>(
+    waiting: &mut Vec<u8>,
+    output: &mut W,
+    text: &[u8],
+) -> Result<(), WriteFailed>
     ensures ok { OnOk result (Forwards (W.contents output.old) (W.contents output.new)
         (waiting.old.items ++ text.now) waiting.new.items) }
     ensures err { OnErr result (Stops (W.contents output.old) (W.contents output.new)

@@ -12,7 +12,7 @@ ghost use Rattle.range_map_cli.specs.Sessions.{IsAt, ClosesBefore, with_line};
 
 use crate::answer::answer;
 use crate::line::Line;
-use crate::output::{flush, put};
+use crate::output::{append_output, flush};
 use crate::split::split_once;
 use crate::{End, request};
 use range_map_blaze::RangeMapBlaze;
@@ -102,7 +102,7 @@ pub fn close<W: Write>(waiting: &mut Vec<u8>, output: &mut W, text: &[u8], end: 
         → Prints all n end (out ++ (waiting.old.items ++ text.now))
         → Closes held (W.contents output.new) all n result }
 {
-    let Ok(()) = put(waiting, output, text) else {
+    let Ok(()) = append_output(waiting, output, text) else {
         return End::WriteFault;
     };
     let Ok(()) = flush(waiting, output) else {
@@ -128,7 +128,7 @@ fn answer_line<W: Write>(
         → ClosesBefore held (W.contents output.new) text rest lines end) }
 {
     match session.answer(alloc, line) {
-        Ok(()) => match put(&mut session.waiting, output, session.reply.as_bytes()) {
+        Ok(()) => match append_output(&mut session.waiting, output, session.reply.as_bytes()) {
             Ok(()) => Ok(()),
             Err(_) => Err(End::WriteFault),
         },

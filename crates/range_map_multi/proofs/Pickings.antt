@@ -15,7 +15,7 @@ valued_none [] = refl
 valued_none (vs ∷ vss) = refl
 
 module _ {A V : Type 0} (shown : A → V) where
-  shown_at : (vs : List A) (place : Option ℕ) → shown_option shown (option_and_then (slice_get vs) place) ≡ option_and_then (slice_get (map shown vs)) place
+  shown_at : (vs : List A) (position : Option ℕ) → shown_option shown (option_and_then (slice_get vs) position) ≡ option_and_then (slice_get (map shown vs)) position
   shown_at vs None = refl
   shown_at vs (Some i) = by_get (slice_get vs i) (slice_get-map shown vs i)
     where
@@ -27,8 +27,8 @@ module _ {A V : Type 0} (shown : A → V) where
   pub shown_picked : {B : Type 0} (items : B → List A) (lists : List B) (places : List (Option ℕ)) → shown_row shown (values_at_positions (map items lists) places) ≡ values_at_positions (map (λ v. map shown (items v)) lists) places
   shown_picked items [] places = refl
   shown_picked items (v ∷ vs) [] = refl
-  shown_picked items (v ∷ vs) (place ∷ places) =
-      ap (λ o. o ∷ shown_row shown (values_at_positions (map items vs) places)) (shown_at (items v) place) ∙ ap (λ l. option_and_then (slice_get (map shown (items v))) place ∷ l) (shown_picked items vs places)
+  shown_picked items (v ∷ vs) (position ∷ places) =
+      ap (λ o. o ∷ shown_row shown (values_at_positions (map items vs) places)) (shown_at (items v) position) ∙ ap (λ l. option_and_then (slice_get (map shown (items v))) position ∷ l) (shown_picked items vs places)
 
   pub full_is_row : (xs : List A) → shown_full_row shown xs ≡ shown_row shown (map Some xs)
   full_is_row [] = refl

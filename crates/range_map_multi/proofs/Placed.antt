@@ -78,7 +78,7 @@ module _ {V : Type 0} where
   pub placed_all : (vs : List V) (N : List (Entry ℕ)) (L : List (Entry V)) → vs ≡ values L → N ≡ in_places 0 L → HasPlacedValues vs N L
   placed_all vs N L p q = ap (with_values (slice_get vs)) q ∙ placed_from vs [] L 0 p refl
 
-  -- one range more with its place
+  -- one range more with its position
   pub place_more : (n n' : ℕ) (e : Entry V) (r : Entry ℕ) (left next : List (Entry V)) → left ≡ e ∷ next → r.lo ≡ e.lo → r.hi ≡ e.hi → r.value ≡ n → n' ≡ n + 1 → in_places n left ≡ r ∷ in_places n' next
   place_more n n' e r left next l lo hi v m =
       ap (in_places n) l
@@ -213,9 +213,9 @@ module _ {V : Type 0} (vss vss' : List (List V)) (Ns Ns' : List (List (Entry ℕ
   given_placed = subst (AllPlaced vss' Ns') (sym given_lists) (subst (λ vs. AllPlaced vs Ns' Ls) (sym is) (subst (λ ns. AllPlaced vss ns Ls) (sym ranges) placed))
 
 -- what references to items show is what the items show
-pub lent_shown : {A C V B D : Type 0} (shown : C → V) (now : A → C) (items : B → List A) (owned : D → List C) (lent : List B) (lists : List D) → map (λ v. map now (items v)) lent ≡ map owned lists
-    → map (λ v. map (λ c. shown (now c)) (items v)) lent ≡ map (λ v. map shown (owned v)) lists
-lent_shown {B = B} shown now items owned lent lists p = sym (through lent) ∙ ap (map (map shown)) p ∙ map-map (map shown) owned lists
+pub borrowed_shown : {A C V B D : Type 0} (shown : C → V) (now : A → C) (items : B → List A) (owned : D → List C) (borrowed : List B) (lists : List D) → map (λ v. map now (items v)) borrowed ≡ map owned lists
+    → map (λ v. map (λ c. shown (now c)) (items v)) borrowed ≡ map (λ v. map shown (owned v)) lists
+borrowed_shown {B = B} shown now items owned borrowed lists p = sym (through borrowed) ∙ ap (map (map shown)) p ∙ map-map (map shown) owned lists
   where
     through : (vs : List B) → map (map shown) (map (λ v. map now (items v)) vs) ≡ map (λ v. map (λ c. shown (now c)) (items v)) vs
     through [] = refl

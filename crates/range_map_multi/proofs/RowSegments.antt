@@ -1,5 +1,5 @@
 -- The segments of lists, one after another, and those of them that a join is asked for.
-use Rattle.range_map_multi.proofs.Words.{◌≡◌, ℕ, zero, suc, ◌<◌, ℤ, pos, ◌+ℤ◌, ◌≤ℤ◌, ◌<ℤ◌, Bool, true, false, cond, List, [], ◌∷◌, ◌++◌, Option, Some, None, refl, ◌∙◌, sym, ap, subst, append_assoc, append-nil, arith, ⊎_elim, is_some, option_or, list_any, IsEquivalence, lists_equiv, options_equiv, ints, by_bool, or_none, Entry, entry, at, holds, IsApart, IsCanonical, AreKeys, are_keys_after, IsAbove, IsAbove-from_apart, at_in, at_under, at_over, at_before, by_place, one_per_run, first_key, steady_to, AllCanonical, first_keys, all_steady_to, all_after, IsNextSegment, row, present, row_eq, IsFound, found_none, found_more, next_less, absent, all_lengths_left, lesser_one, steady_none, none_left, all_canonical_after, same_some, stops_steady, asked_row, IsJoinOfMany}
+use Rattle.range_map_multi.proofs.Words.{◌≡◌, ℕ, zero, suc, ◌<◌, ℤ, pos, ◌+ℤ◌, ◌≤ℤ◌, ◌<ℤ◌, Bool, true, false, cond, List, [], ◌∷◌, ◌++◌, Option, Some, None, refl, ◌∙◌, sym, ap, subst, append_assoc, append-nil, arith, ⊎_elim, is_some, option_or, list_any, IsEquivalence, lists_equiv, options_equiv, ints, by_bool, or_none, Entry, entry, at, holds, IsApart, IsCanonical, AreKeys, are_keys_after, IsAbove, IsAbove-from_apart, at_in, at_under, at_over, at_before, by_place, one_per_run, first_key, steady_to, AllCanonical, first_keys, all_steady_to, all_after, IsNextSegment, row, row_if_any, row_eq, IsFound, found_none, found_more, next_less, row_if_any-none, all_lengths_left, lesser_one, steady_none, none_left, all_canonical_after, same_some, stops_steady, asked_row, IsJoinOfMany}
 
 by_option : {A P : Type 0} (o : Option A) → (o ≡ None → P) → ((x : A) → o ≡ Some x → P) → P
 by_option None f g = f refl
@@ -149,7 +149,7 @@ module _ {A : Type 0} where
 
       -- ---- those that a join is asked for
 
-      asked_present : (asks : List (Option A) → Bool) (r : List (Option A)) → (asks r ≡ true → list_any is_some r ≡ true) → keeps asks (present r) ≡ asked_row asks r
+      asked_present : (asks : List (Option A) → Bool) (r : List (Option A)) → (asks r ≡ true → list_any is_some r ≡ true) → keeps asks (row_if_any r) ≡ asked_row asks r
       asked_present asks r h = by_bool (list_any is_some r)
           (λ t. ap (λ b. keeps asks (cond b (Some r) None)) t)
           (λ f. ap (λ b. keeps asks (cond b (Some r) None)) f ∙ by_bool (asks r)
@@ -171,6 +171,6 @@ module _ {A : Type 0} where
               keys = keys_kept asks low high ps (keys_segments low high lists ps c k a);
             };
             content = λ j l m. at_kept asks (row_eq eq) ps j f.canonical
-                ∙ ap (keeps asks) (sym (f.content j ∙ ap (option_or (at ps j)) (absent (row r.0 j) (none_left r.0 j r.1.1)) ∙ or_none (at ps j)))
+                ∙ ap (keeps asks) (sym (f.content j ∙ ap (option_or (at ps j)) (row_if_any-none (row r.0 j) (none_left r.0 j r.1.1)) ∙ or_none (at ps j)))
                 ∙ asked_present asks (row lists j) (h j);
           }

@@ -21,7 +21,7 @@ pub use Rattle.blaze_int.proofs.Comparisons.{by_bool}
 pub use Rattle.blaze_int.proofs.Naturals.{next_differs}
 pub use Rattle.blaze_int.specs.Unsigned.{nat_of}
 pub use Rattle.blaze_streams.proofs.Answering.{IsAnsweredSoFar, answered_none, takes_next, answered_more, answered_all}
-pub use Rattle.blaze_streams.proofs.FoundSegments.{next_less, IsFound, found_none, found_more, absent}
+pub use Rattle.blaze_streams.proofs.FoundSegments.{next_less, IsFound, found_none, found_more, row_if_any-none}
 pub use Rattle.blaze_streams.proofs.JoinLaws.{as_list, at_rows, canonical_rows}
 pub use Rattle.blaze_streams.proofs.LengthsLeft.{all_lengths_left, lengths_left}
 pub use Rattle.blaze_streams.proofs.Lesser.{lesser_one}
@@ -36,7 +36,7 @@ pub use Rattle.blaze_streams.specs.JoinLaws.{as_row}
 pub use Rattle.blaze_streams.specs.Joins.{paired, pair_eq, IsJoinOf}
 pub use Rattle.blaze_streams.specs.RangeLists.{shown_ranges}
 pub use Rattle.blaze_streams.specs.Ranges.{shown_range}
-pub use Rattle.blaze_streams.specs.Segments.{row, row_eq, present, shown_segment}
+pub use Rattle.blaze_streams.specs.Segments.{row, row_eq, row_if_any, shown_segment}
 pub use Rattle.blaze_streams.specs.declared.segmenting.joins.JoinKind.{JoinKind}
 pub use Rattle.blaze_streams.specs.declared.segmenting.joins.JoinKind.TheVariants.{Inner, Full}
 pub use Rattle.blaze_table.proofs.Canonical.Counted.{are_keys_after}

@@ -48,7 +48,7 @@ all_valued (vs ∷ vss) (N ∷ Ns) = ranges_with_values vs N ∷ all_valued vss 
 abbrev pub values_at_positions : {V : Type 0} → List (List V) → List (Option ℕ) → List (Option V)
 values_at_positions [] places = []
 values_at_positions (vs ∷ vss) [] = []
-values_at_positions (vs ∷ vss) (place ∷ places) = option_and_then (slice_get vs) place ∷ values_at_positions vss places
+values_at_positions (vs ∷ vss) (position ∷ places) = option_and_then (slice_get vs) position ∷ values_at_positions vss places
 
 -- each list is a range map's
 abbrev pub AllRangeMaps : {V : Type 0} → (V → V → Bool) → ℤ → ℤ → List (List (Entry V)) → Type 0

@@ -4,11 +4,11 @@ ghost use Rattle.blaze_table.specs.Painted.{ClonesAreAlike};
 ghost use Rattle.range_map_blaze.specs.Made.{IsMade};
 ghost use Rattle.range_map_multi.specs.Many.{last_of_odd, IsChosenOfMany};
 
+use crate::borrowed_maps::{AsMap, streams_of};
 use crate::borrowed_unions::union_by_rounds;
-use crate::lent::{AsMap, streams_of};
 use crate::merges::merged;
 use crate::operations::{OddKeys, Union};
-use crate::sizes::place_of_large;
+use crate::sizes::position_of_large;
 use blaze_int::Integer;
 use blaze_streams::{SortedDisjointMap, intersection_of};
 use range_map_blaze::RangeMapBlaze;
@@ -23,10 +23,10 @@ pub fn borrowed_symmetric_difference<'a, T: Integer, V: Eq + Clone, M: AsMap<T, 
     ensures { IfOk result (IsMade (IsChosenOfMany V.eq T.low T.high last_of_odd (map M.shown maps.now))) }
 {
     if maps.len() == 2 {
-        return maps[0].lent() ^ maps[1].lent();
+        return maps[0].as_borrowed() ^ maps[1].as_borrowed();
     }
-    match place_of_large(maps) {
-        Some(place) => difference_around(alloc, maps, place),
+    match position_of_large(maps) {
+        Some(position) => difference_around(alloc, maps, position),
         None => difference_by_rounds(alloc, maps),
     }
 }
@@ -45,19 +45,19 @@ pub fn difference_by_rounds<'a, T: Integer, V: Eq + Clone, M: AsMap<T, V>>(
     RangeMapBlaze::from_sorted_disjoint_map(alloc, list)
 }
 
-/// Returns the symmetric difference of all maps by a `^` of those before the map at `place` with it, and a `^` with those after it.
+/// Returns the symmetric difference of all maps by a `^` of those before the map at `position` with it, and a `^` with those after it.
 fn difference_around<'a, T: Integer, V: Eq + Clone, M: AsMap<T, V>>(
     alloc: Global,
     maps: &'a [M],
-    place: usize,
+    position: usize,
 ) -> Result<RangeMapBlaze<T, V>, AllocError>
     requires clones { ClonesAreAlike V.is_clone V.eq }
-    requires there { place < length maps.now }
+    requires there { position < length maps.now }
     ensures { IfOk result (IsMade (IsChosenOfMany V.eq T.low T.high last_of_odd (map M.shown maps.now))) }
 {
-    let before = difference_by_rounds(alloc, &maps[..place])?;
-    let map = (before ^ maps[place].lent())?;
-    difference_with(alloc, map, &maps[place + 1..])
+    let before = difference_by_rounds(alloc, &maps[..position])?;
+    let map = (before ^ maps[position].as_borrowed())?;
+    difference_with(alloc, map, &maps[position + 1..])
 }
 
 /// Returns the symmetric difference of a map and those after it. At a key with an even number of values after the map, the last

@@ -5,11 +5,11 @@ ghost use Rattle.range_map_blaze.specs.Made.{IsMade};
 ghost use Rattle.range_map_multi.specs.Many.{last_of_all, IsChosenOfMany};
 ghost use Rattle.range_map_multi.specs.Merges.{IsOnAll};
 
-use crate::lent::{AsMap, entries_of, streams_of};
+use crate::borrowed_maps::{AsMap, entries_of, streams_of};
 use crate::lists::list_of;
 use crate::merges::merged;
 use crate::operations::Intersection;
-use crate::sizes::place_of_smallest;
+use crate::sizes::position_of_smallest;
 use blaze_int::Integer;
 use blaze_streams::{CanonMapIter, SortedDisjointMap, intersection_of};
 use range_map_blaze::RangeMapBlaze;
@@ -29,7 +29,7 @@ pub fn borrowed_intersection<'a, T: Integer, V: Eq + Clone, M: AsMap<T, V>>(
     if maps.len() < 3 || MOST < maps.len() {
         intersected(alloc, maps)
     } else {
-        intersection_from(alloc, maps, place_of_smallest(maps))
+        intersection_from(alloc, maps, position_of_smallest(maps))
     }
 }
 
@@ -50,15 +50,15 @@ fn intersected<'a, T: Integer, V: Eq + Clone, M: AsMap<T, V>>(
 fn intersection_from<'a, T: Integer, V: Eq + Clone, M: AsMap<T, V>>(
     alloc: Global,
     maps: &'a [M],
-    place: usize,
+    position: usize,
 ) -> Result<RangeMapBlaze<T, V>, AllocError>
     requires clones { ClonesAreAlike V.is_clone V.eq }
-    requires there { place < length maps.now }
+    requires there { position < length maps.now }
     ensures { IfOk result (IsMade (IsChosenOfMany V.eq T.low T.high last_of_all (map M.shown maps.now))) }
 {
-    let first = list_of(alloc, entries_of(&maps[place]))?;
-    let shared = part_on_all(alloc, first, &maps[..place])?;
-    part_with_last_values(alloc, shared, &maps[place + 1..])
+    let first = list_of(alloc, entries_of(&maps[position]))?;
+    let shared = part_on_all(alloc, first, &maps[..position])?;
+    part_with_last_values(alloc, shared, &maps[position + 1..])
 }
 
 /// The keys of a list that all maps have too, with the list's values. If an allocation fails, the list is dropped.

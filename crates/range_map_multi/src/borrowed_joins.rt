@@ -5,7 +5,7 @@ ghost use Rattle.range_map_multi.specs.ManyJoins.{shown_row, shown_full_row, IsC
 ghost use Rattle.range_map_multi.specs.ManyJoins.{IsManyJoined};
 ghost use Rattle.range_map_blaze.specs.Made.{IsMade};
 
-use crate::lent::{AsMap, streams_of};
+use crate::borrowed_maps::{AsMap, streams_of};
 use crate::parts::all_parts_of;
 use crate::row_answers::{full_answers, inner_answers};
 use crate::rows::Shows;

@@ -4,10 +4,10 @@ ghost use Rattle.blaze_table.specs.Painted.{ClonesAreAlike};
 ghost use Rattle.range_map_blaze.specs.Made.{IsMade};
 ghost use Rattle.range_map_multi.specs.Many.{last_value, IsChosenOfMany};
 
-use crate::lent::{AsMap, streams_of};
+use crate::borrowed_maps::{AsMap, streams_of};
 use crate::merges::merged;
 use crate::operations::Union;
-use crate::sizes::place_of_large;
+use crate::sizes::position_of_large;
 use blaze_int::Integer;
 use blaze_streams::SortedDisjointMap;
 use range_map_blaze::RangeMapBlaze;
@@ -22,10 +22,10 @@ pub fn borrowed_union<'a, T: Integer, V: Eq + Clone, M: AsMap<T, V>>(
     ensures { IfOk result (IsMade (IsChosenOfMany V.eq T.low T.high last_value (map M.shown maps.now))) }
 {
     if maps.len() == 2 {
-        return maps[0].lent() | maps[1].lent();
+        return maps[0].as_borrowed() | maps[1].as_borrowed();
     }
-    match place_of_large(maps) {
-        Some(place) => union_around_large(alloc, maps, place),
+    match position_of_large(maps) {
+        Some(position) => union_around_large(alloc, maps, position),
         None => union_by_rounds(alloc, maps),
     }
 }
@@ -43,19 +43,19 @@ pub fn union_by_rounds<'a, T: Integer, V: Eq + Clone, M: AsMap<T, V>>(
     RangeMapBlaze::from_sorted_disjoint_map(alloc, list)
 }
 
-/// Returns the union with the map at `place` as a whole. The entries of the maps before it fill its gaps, and those of the maps
+/// Returns the union with the map at `position` as a whole. The entries of the maps before it fill its gaps, and those of the maps
 /// after it are painted over it.
 fn union_around_large<'a, T: Integer, V: Eq + Clone, M: AsMap<T, V>>(
     alloc: Global,
     maps: &'a [M],
-    place: usize,
+    position: usize,
 ) -> Result<RangeMapBlaze<T, V>, AllocError>
     requires clones { ClonesAreAlike V.is_clone V.eq }
-    requires there { place < length maps.now }
+    requires there { position < length maps.now }
     ensures { IfOk result (IsMade (IsChosenOfMany V.eq T.low T.high last_value (map M.shown maps.now))) }
 {
-    let under = union_by_rounds(alloc, &maps[..place])?;
-    let map = (under | maps[place].lent())?;
-    let over = union_by_rounds(alloc, &maps[place + 1..])?;
+    let under = union_by_rounds(alloc, &maps[..position])?;
+    let map = (under | maps[position].as_borrowed())?;
+    let over = union_by_rounds(alloc, &maps[position + 1..])?;
     map | over
 }

@@ -4,9 +4,9 @@
 mod borrowed_differences;
 mod borrowed_intersections;
 mod borrowed_joins;
+mod borrowed_maps;
 mod borrowed_unions;
 pub mod laws;
-mod lent;
 mod lists;
 mod maps;
 mod merges;

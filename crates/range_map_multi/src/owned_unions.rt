@@ -5,7 +5,7 @@ ghost use Rattle.range_map_blaze.specs.Made.{IsMade};
 ghost use Rattle.range_map_multi.specs.Many.{last_value, IsChosenOfMany};
 
 use crate::borrowed_unions::union_by_rounds;
-use crate::sizes::place_of_large;
+use crate::sizes::position_of_large;
 use blaze_int::Integer;
 use range_map_blaze::RangeMapBlaze;
 use std::alloc::{AllocError, Global};
@@ -23,24 +23,24 @@ pub fn owned_union<T: Integer, V: Eq + Clone>(
         let right = maps.remove(0);
         return left | right;
     }
-    match place_of_large(&maps) {
-        Some(place) => union_into(alloc, maps, place),
+    match position_of_large(&maps) {
+        Some(position) => union_into(alloc, maps, position),
         None => union_by_rounds(alloc, &maps),
     }
 }
 
-/// Changes the map at `place` into the union. The entries of the maps before it fill its gaps, and those of the maps after it are
+/// Changes the map at `position` into the union. The entries of the maps before it fill its gaps, and those of the maps after it are
 /// painted over it.
 fn union_into<T: Integer, V: Eq + Clone>(
     alloc: Global,
     mut maps: Vec<RangeMapBlaze<T, V>>,
-    place: usize,
+    position: usize,
 ) -> Result<RangeMapBlaze<T, V>, AllocError>
     requires clones { ClonesAreAlike V.is_clone V.eq }
-    requires there { place < length maps.items }
+    requires there { position < length maps.items }
     ensures { IfOk result (IsMade (IsChosenOfMany V.eq T.low T.high last_value (map (λ m. m.entries) maps.items))) }
 {
-    let mut behind = maps.split_off(place)?;
+    let mut behind = maps.split_off(position)?;
     let large = behind.remove(0);
     let under = union_by_rounds(alloc, &maps)?;
     let map = (under | large)?;

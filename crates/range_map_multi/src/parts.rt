@@ -50,24 +50,27 @@ pub fn all_parts_of<T: Integer, VC: ValueCarrier, I: SortedDisjointMap<T, VC>>(
 }
 
 /// References to the carriers of each list.
-pub fn lent_lists<'a, C>(alloc: Global, lists: &'a [Vec<C>]) -> Result<Vec<Vec<&'a C>>, AllocError>
-    ensures { IfOk result (λ lent. map (λ v. map (λ c. c.now) v.items) lent.items
+pub fn borrowed_lists<'a, C>(
+    alloc: Global,
+    lists: &'a [Vec<C>],
+) -> Result<Vec<Vec<&'a C>>, AllocError>
+    ensures { IfOk result (λ borrowed. map (λ v. map (λ c. c.now) v.items) borrowed.items
         ≡ map (λ v. v.items) lists.now) }
 {
-    let mut lent = Vec::new(alloc);
+    let mut borrowed = Vec::new(alloc);
     for list in lists {
-        lent.push(lent_list(alloc, list)?)?;
+        borrowed.push(borrowed_list(alloc, list)?)?;
     }
-    Ok(lent)
+    Ok(borrowed)
 }
 
 /// References to the carriers of a list.
-fn lent_list<'a, C>(alloc: Global, list: &'a [C]) -> Result<Vec<&'a C>, AllocError>
-    ensures { IfOk result (λ lent. map (λ c. c.now) lent.items ≡ list.now) }
+fn borrowed_list<'a, C>(alloc: Global, list: &'a [C]) -> Result<Vec<&'a C>, AllocError>
+    ensures { IfOk result (λ borrowed. map (λ c. c.now) borrowed.items ≡ list.now) }
 {
-    let mut lent = Vec::new(alloc);
+    let mut borrowed = Vec::new(alloc);
     for carrier in list {
-        lent.push(carrier)?;
+        borrowed.push(carrier)?;
     }
-    Ok(lent)
+    Ok(borrowed)
 }

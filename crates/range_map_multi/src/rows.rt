@@ -17,12 +17,12 @@ pub trait Shows<A> {
 }
 
 /// The item at a position of a list, if there is a position.
-fn item_at<A: Copy>(list: &[A], place: Option<usize>) -> Option<A>
-    ensures { result ≡ option_and_then (slice_get list.now) place }
+fn item_at<A: Copy>(list: &[A], position: Option<usize>) -> Option<A>
+    ensures { result ≡ option_and_then (slice_get list.now) position }
 {
-    match place {
+    match position {
         None => None,
-        Some(place) => list.get(place).copied(),
+        Some(position) => list.get(position).copied(),
     }
 }
 

@@ -10,7 +10,7 @@ ghost use Rattle.range_map_multi.specs.ManyJoins.{IsManyJoined};
 use crate::merges::merged;
 use crate::operations::{Intersection, OddKeys, Union};
 use crate::parity::all_with_keys;
-use crate::parts::{all_parts_of, lent_lists};
+use crate::parts::{all_parts_of, borrowed_lists};
 use crate::row_answers::{full_answers, inner_answers};
 use crate::rows::Shows;
 use blaze_int::Integer;
@@ -178,8 +178,8 @@ impl<T: Integer, VC: ValueCarrier, I: SortedDisjointMap<T, VC>> MultiwaySortedDi
         f: F,
     ) -> Result<MultiwayInnerJoinMap<T, W>, AllocError> {
         let (mut cursors, carriers) = all_parts_of(alloc, self)?;
-        let lent = lent_lists(alloc, &carriers)?;
-        inner_answers::<_, _, ByCarrier, _, _>(alloc, &mut cursors, &lent, f)
+        let borrowed = borrowed_lists(alloc, &carriers)?;
+        inner_answers::<_, _, ByCarrier, _, _>(alloc, &mut cursors, &borrowed, f)
     }
 
     fn full_join<W: Eq + Clone, F: FnMut(&[Option<&VC>]) -> W>(
@@ -188,8 +188,8 @@ impl<T: Integer, VC: ValueCarrier, I: SortedDisjointMap<T, VC>> MultiwaySortedDi
         f: F,
     ) -> Result<MultiwayFullJoinMap<T, W>, AllocError> {
         let (mut cursors, carriers) = all_parts_of(alloc, self)?;
-        let lent = lent_lists(alloc, &carriers)?;
-        full_answers::<_, _, ByCarrier, _, _>(alloc, &mut cursors, &lent, f)
+        let borrowed = borrowed_lists(alloc, &carriers)?;
+        full_answers::<_, _, ByCarrier, _, _>(alloc, &mut cursors, &borrowed, f)
     }
 
     fn sweep(self, alloc: Global) -> Result<MultiwaySweep<T, VC>, AllocError> {

@@ -13,7 +13,7 @@ ghost use Rattle.blaze_entries.specs.Walked.{GoesOnUnlike};
 use super::Counted;
 use crate::found::{compared, entry_reaching, range_cloned, range_of, value_cloned};
 use crate::range_entry::RangeEntry;
-use crate::scan::{Walk, above_cloned, cloned_if, look_down};
+use crate::scan::{Walk, cloned_if, look_down, tail_value_cloned};
 use blaze_int::Integer;
 use std::alloc::AllocError;
 
@@ -76,7 +76,7 @@ impl<T: Integer, V: Clone> Counted<T, V> {
     /// Returns the first and last key of the last entry. If the entry has more than one key, the result includes a
     /// clone of its value. If the clone fails, the entries are unchanged. O(log n) with n entries, without comparing
     /// keys in the tree.
-    pub fn last_held(&mut self) -> Result<Option<RangeEntry<T, Option<V>>>, AllocError>
+    pub fn last_range_cloned(&mut self) -> Result<Option<RangeEntry<T, Option<V>>>, AllocError>
         ensures held { IfOk result (λ r. IsRangeCloned T.rank V.is_clone
             (slice_get self.old.entries (length self.old.entries - 1)) r) }
         ensures refused { OnErr result (IsSomeAnd
@@ -160,20 +160,20 @@ impl<T: Integer, V: Eq + Clone> Counted<T, V> {
         ensures found { IfOk result (λ w. IsWalk V.is_clone
             (is_sought V.eq (option_copied value.entry)) wanted (T.rank lo) (T.rank hi)
             (T.SafeLen.number len) self.old.entries (shown_plan T.rank w.plan)
-            (T.SafeLen.number w.keys_outside) w.above w.value) }
+            (T.SafeLen.number w.keys_outside) w.tail_value w.old_value) }
         ensures refused { OnErr result (GoesOnUnlike (is_sought V.eq (option_copied value.entry))
             (T.rank lo) (T.rank hi) self.old.entries
             ⊎ ((wanted ≡ true) × IsSome (at self.old.entries (T.rank lo)))) }
         ensures looked { HasWalkLookups 0 (T.rank lo) (T.rank hi) self.old self.new }
     {
         let (plan, keys_outside, held) = look_down(&self.tree, len, lo, hi, value, &mut self.looks);
-        let above = above_cloned(plan.predecessor, hi, held)?;
-        let value = cloned_if(wanted, held)?;
+        let tail_value = tail_value_cloned(plan.predecessor, hi, held)?;
+        let old_value = cloned_if(wanted, held)?;
         Ok(Walk {
             plan,
             keys_outside,
-            above,
-            value,
+            tail_value,
+            old_value,
         })
     }
 }

@@ -39,7 +39,7 @@ fn change_last_end<T: Integer, V>(nodes: &mut Nodes<T, V>, end: T)
 
 /// Inserts a node. The compiler inlines the std `insert`, whose result has more cases, into this function. If the
 /// methods call `insert` themselves, it is not inlined, and paints and insertions take about 1% longer.
-pub(super) fn put<T: Integer, V: Drop>(
+pub(super) fn insert_node<T: Integer, V: Drop>(
     nodes: &mut Nodes<T, V>,
     start: T,
     node: EndValue<T, Option<V>>,
@@ -116,7 +116,7 @@ impl<T: Integer, V: Drop> Tree<T, V> {
     {
         start.in_hand();
         let value = Some(value);
-        put(&mut self.nodes, start, EndValue { end, value })?;
+        insert_node(&mut self.nodes, start, EndValue { end, value })?;
         Ok(())
     }
 

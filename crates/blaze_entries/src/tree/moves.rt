@@ -5,7 +5,7 @@ ghost use Rattle.blaze_entries.specs.Nodes.{shown_nodes};
 ghost use Rattle.blaze_entries.specs.Starts.{StartsAscend, start_at, IsStartMoved, IsFrontReplaced};
 
 use super::Tree;
-use super::edits::{exchange, put};
+use super::edits::{exchange, insert_node};
 use crate::node::{EndValue, Nodes};
 use crate::start::Start;
 use blaze_int::Integer;
@@ -26,7 +26,7 @@ fn move_node<T: Integer, V: Drop>(
         (shown_nodes T.rank nodes.new.entries)) }
     ensures err { OnErr result (nodes.new.entries ≡ nodes.old.entries) }
 {
-    put(nodes, to, place)?;
+    insert_node(nodes, to, place)?;
     if let Some(node) = nodes.remove(&Start(from)) {
         exchange(nodes, to, node);
     }
@@ -49,7 +49,7 @@ fn replace_node<T: Integer, V: Drop>(
         (shown_nodes T.rank nodes.old.entries) (shown_nodes T.rank nodes.new.entries)) }
     ensures err { OnErr result (nodes.new.entries ≡ nodes.old.entries) }
 {
-    put(nodes, to, place)?;
+    insert_node(nodes, to, place)?;
     if let Some(node) = exchange(nodes, start, front) {
         exchange(nodes, to, node);
     }

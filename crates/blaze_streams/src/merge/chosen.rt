@@ -31,7 +31,7 @@ fn put_piece<T: Integer, VC: ValueCarrier, P: PieceList<T, VC>>(
     start.in_hand();
     end.in_hand();
     if let Some(carrier) = value {
-        out.put(start, end, carrier)?;
+        out.push_piece(start, end, carrier)?;
     }
     Ok(())
 }

@@ -18,7 +18,7 @@ pub trait PieceList<T: Integer, VC: ValueCarrier> {
     /// Appends the keys from `start` to `end` with a value that is `==` to the carrier's. The last range is extended
     /// instead if the two touch and have equal values. If an allocation fails, the list is unspecified and the caller
     /// must drop it.
-    fn put(&mut self, start: T, end: T, carrier: VC) -> Result<(), AllocError>
+    fn push_piece(&mut self, start: T, end: T, carrier: VC) -> Result<(), AllocError>
         requires { VC.can_carry }
         ensures { OnOk result (PutsAlike VC.Value.eq (T.rank start) (T.rank end)
             (Some (VC.shown carrier)) (entries self.old) (entries self.new)) };
@@ -28,7 +28,7 @@ pub trait PieceList<T: Integer, VC: ValueCarrier> {
 impl<T: Integer, VC: ValueCarrier> PieceList<T, VC> for Vec<(RangeInclusive<T>, VC)> {
     ghost entries = { λ list. shown_ranges T.rank VC.shown list.items };
 
-    fn put(&mut self, start: T, end: T, carrier: VC) -> Result<(), AllocError> {
+    fn push_piece(&mut self, start: T, end: T, carrier: VC) -> Result<(), AllocError> {
         push_joined(self, start, end, carrier)?;
         Ok(())
     }
@@ -38,7 +38,7 @@ impl<T: Integer, VC: ValueCarrier> PieceList<T, VC> for Vec<(RangeInclusive<T>, 
 impl<T: Integer, V: Eq + Clone, VC: HasValue<Value = V>> PieceList<T, VC> for Vec<(T, T, V)> {
     ghost entries = { λ list. shown_list T.rank list.items };
 
-    fn put(&mut self, start: T, end: T, carrier: VC) -> Result<(), AllocError> {
+    fn push_piece(&mut self, start: T, end: T, carrier: VC) -> Result<(), AllocError> {
         push_value(self, start, end, carrier)
     }
 }

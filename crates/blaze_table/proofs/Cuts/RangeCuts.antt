@@ -26,7 +26,7 @@ module _ {V : Type 0} (eq : V → V → Bool) (sought : Option V) (free : sought
   module _ (low high : ℤ) (w : l ≤ℤ h) (s : StartsAscend low high es) (c : IsCanonical eq es) where
     -- what the edit requires
     pub range_place : IsEditPlan rank eq l es p o
-    range_place = place_is eq test l h w low high es s c rank p o f.plan (like (last_below l es) f.above)
+    range_place = place_is eq test l h w low high es s c rank p o f.plan (like (last_below l es) f.tail_value)
       where
         like : (x : Option (Entry V)) → IfSome x (λ e. h <ℤ e.hi → test e.value ≡ false → IsSomeAnd o (λ u. eq e.value u ≡ true)) → IfSome x (λ e. rank p.end <ℤ e.hi → IsSomeAnd o (λ u. eq e.value u ≡ true))
         like None i = tt

@@ -1,17 +1,17 @@
 -- The result of a fill, key by key.
-use Rattle.blaze_table.proofs.Words.{option_or, ◌≡◌, ℤ, ◌≤ℤ◌, ◌<ℤ◌, Bool, cond, List, Option, Some, None, refl, ◌∙◌, sym, ap, IsSome, IsEquivalence, same_along, same_itself, or_none, Entry, entry, at, IsRangeMap, filled, IsFilled, IsMappedFrom}
+use Rattle.blaze_table.proofs.Words.{option_or, ◌≡◌, ℤ, ◌≤ℤ◌, ◌<ℤ◌, Bool, cond, List, Option, Some, None, refl, ◌∙◌, sym, ap, IsSome, IsEquivalence, same_along, same_itself, or_none, Entry, entry, at, IsRangeMap, filled_content, IsFilled, IsMappedFrom}
 use Rattle.blaze_table.proofs.Canonical.Lookup.{by_place, holds_in, holds_under, holds_over}
 use Rattle.blaze_table.proofs.Fills.KeptEntries.{all_kept}
 
 module _ {V : Type 0} where
   module _ (content : ℤ → Option V) (v : V) (l h k : ℤ) where
-    pub filled_in : l ≤ℤ k → k ≤ℤ h → filled l h v content k ≡ option_or (content k) (Some v)
+    pub filled_in : l ≤ℤ k → k ≤ℤ h → filled_content l h v content k ≡ option_or (content k) (Some v)
     filled_in a b = ap (λ t. option_or (content k) (cond t (Some v) None)) (holds_in (entry l h v) k a b)
 
-    pub filled_under : k <ℤ l → filled l h v content k ≡ content k
+    pub filled_under : k <ℤ l → filled_content l h v content k ≡ content k
     filled_under a = ap (λ t. option_or (content k) (cond t (Some v) None)) (holds_under (entry l h v) k a) ∙ or_none (content k)
 
-    pub filled_over : h <ℤ k → filled l h v content k ≡ content k
+    pub filled_over : h <ℤ k → filled_content l h v content k ≡ content k
     filled_over b = ap (λ t. option_or (content k) (cond t (Some v) None)) (holds_over (entry l h v) k b) ∙ or_none (content k)
 
   pub or_some : (a b : Option V) → IsSome a → option_or a b ≡ a
@@ -19,7 +19,7 @@ module _ {V : Type 0} where
   or_some None b s = cc
 
   -- a fill of a range that has values everywhere changes nothing
-  pub filled_held : (content : ℤ → Option V) (v : V) (l h : ℤ) → IsMappedFrom content l h → (k : ℤ) → filled l h v content k ≡ content k
+  pub filled_held : (content : ℤ → Option V) (v : V) (l h : ℤ) → IsMappedFrom content l h → (k : ℤ) → filled_content l h v content k ≡ content k
   filled_held content v l h s k = by_place (entry l h v) k
       (λ a b. filled_in content v l h k a b ∙ or_some (content k) (Some v) (s k a b))
       (filled_under content v l h k)
@@ -30,5 +30,5 @@ pub filled_none : {V : Type 0} (eq : V → V → Bool) (laws : IsEquivalence eq)
 filled_none eq laws low high l h v old r s = record {
   range_map = r;
   content = λ k. same_along eq {a = at old k} refl (sym (filled_held (at old) v l h s k)) (same_itself eq laws (at old k));
-  kept = all_kept eq (filled l h v (at old)) old;
+  kept = all_kept eq (filled_content l h v (at old)) old;
 }

@@ -1,5 +1,5 @@
 -- The gaps of a range get a value one by one.
-use Rattle.blaze_table.proofs.Words.{none_is_not, option_or, ◌≡◌, ℕ, ℤ, pos, ◌+ℤ◌, ◌-ℤ◌, ◌≤ℤ◌, ◌<ℤ◌, Bool, true, false, cond, List, [], Option, Some, None, refl, ◌∙◌, sym, ap, subst, arith, inl, inr, ◌↔◌, IsSome, IsTrue, IsEquivalence, Contains, ints, by_lt_z, same_along, same_itself, same_trans, some_of_same, none_of_same, AreKeys, IsCanonical, Entry, entry, at, holds, SameOption, SameContent, filled, AreStartsKept, IsFilled, IsMappedFrom, IsFirstGap, never_equal, IsBeside, IsFilledBut, IsFilling, IsGapFilled, IsJoinedBut, IsOrdered, IsOrderedTable, IsClearFrom, painted}
+use Rattle.blaze_table.proofs.Words.{none_is_not, option_or, ◌≡◌, ℕ, ℤ, pos, ◌+ℤ◌, ◌-ℤ◌, ◌≤ℤ◌, ◌<ℤ◌, Bool, true, false, cond, List, [], Option, Some, None, refl, ◌∙◌, sym, ap, subst, arith, inl, inr, ◌↔◌, IsSome, IsTrue, IsEquivalence, Contains, ints, by_lt_z, same_along, same_itself, same_trans, some_of_same, none_of_same, AreKeys, IsCanonical, Entry, entry, at, holds, SameOption, SameContent, filled_content, AreStartsKept, IsFilled, IsMappedFrom, IsFirstGap, never_equal, IsBeside, IsFilledBut, IsFilling, IsGapFilled, IsJoinedBut, IsOrdered, IsOrderedTable, IsClearFrom, painted_content}
 use Rattle.blaze_table.proofs.Canonical.Counted.{keys_among}
 use Rattle.blaze_table.proofs.Canonical.Lookup.{by_place, holds_in, holds_under, holds_over}
 use Rattle.blaze_table.proofs.Canonical.Runs.{one_per_run}
@@ -12,7 +12,7 @@ use Rattle.blaze_table.proofs.Fills.TakenBack.{goes_back_more}
 
 module _ {V : Type 0} where
   -- up to the end of a fill, a longer fill gives the same values
-  filled_less : (content : ℤ → Option V) (v : V) (l m h : ℤ) → m ≤ℤ h → (k : ℤ) → k ≤ℤ m → filled l m v content k ≡ filled l h v content k
+  filled_less : (content : ℤ → Option V) (v : V) (l m h : ℤ) → m ≤ℤ h → (k : ℤ) → k ≤ℤ m → filled_content l m v content k ≡ filled_content l h v content k
   filled_less content v l m h o k u = by_lt_z k l
       (λ a. filled_under content v l m k a ∙ sym (filled_under content v l h k a))
       (λ a. filled_in content v l m k a u ∙ sym (filled_in content v l h k a (omega (arith, ints))))
@@ -24,8 +24,8 @@ module _ {V : Type 0} (eq : V → V → Bool) (laws : IsEquivalence eq) where
   like_clone v w like (Some x) = (λ s. laws.congr x v w s ∙ like, λ s. laws.congr x w v s ∙ laws.symm w v ∙ like)
 
   -- The gap from a to b is painted, and the keys after it up to n have values. So everything up to n is filled.
-  filled_more : (old cur new : ℤ → Option V) (v w : V) (l a b n : ℤ) → l ≤ℤ a → a ≤ℤ b → b ≤ℤ n → ((k : ℤ) → SameOption eq (cur k) (filled l (a -ℤ pos 1) v old k))
-      → IsClearFrom cur a b → IsMappedFrom cur (b +ℤ pos 1) n → ((k : ℤ) → SameOption eq (new k) (painted a b w cur k)) → eq v w ≡ true → (k : ℤ) → SameOption eq (new k) (filled l n v old k)
+  filled_more : (old cur new : ℤ → Option V) (v w : V) (l a b n : ℤ) → l ≤ℤ a → a ≤ℤ b → b ≤ℤ n → ((k : ℤ) → SameOption eq (cur k) (filled_content l (a -ℤ pos 1) v old k))
+      → IsClearFrom cur a b → IsMappedFrom cur (b +ℤ pos 1) n → ((k : ℤ) → SameOption eq (new k) (painted_content a b w cur k)) → eq v w ≡ true → (k : ℤ) → SameOption eq (new k) (filled_content l n v old k)
   filled_more old cur new v w l a b n o p q before clear held one like k = by_place (entry a b w) k
       (λ x y.
       let none : old k ≡ None = sym (filled_over old v l (a -ℤ pos 1) k (omega (arith, ints))) ∙ none_of_same eq (cur k) _ (before k) (clear k x y) in
@@ -42,7 +42,7 @@ module _ {V : Type 0} (eq : V → V → Bool) (laws : IsEquivalence eq) where
       let some : IsSome (old k) = some_of_same eq (cur k) (old k) (same_along eq {a = cur k} refl (filled_over old v l (a -ℤ pos 1) k (omega (arith, ints))) (before k)) (held k (omega (arith, ints)) z) in
       same_along eq {a = new k} refl (sym (filled_in old v l n k (omega (arith, ints)) z ∙ or_some (old k) (Some v) some)) stays))
     where
-      beside : holds (entry a b w) k ≡ false → SameOption eq (new k) (filled l (a -ℤ pos 1) v old k)
+      beside : holds (entry a b w) k ≡ false → SameOption eq (new k) (filled_content l (a -ℤ pos 1) v old k)
       beside off = same_trans eq laws (new k) (cur k) _ (same_along eq {a = new k} refl (ap (λ t. cond t (Some w) (cur k)) off) (one k)) (before k)
 
   -- the neighbours' values compared with a value, and with its clone
@@ -82,7 +82,7 @@ module _ {V : Type 0} (eq : V → V → Bool) (laws : IsEquivalence eq) where
     pub is_put : IsPut low high (entry a b w) cur new
     is_put = subst (IsPut low high (entry a b w) cur) (sym d.put) (put_in low high (entry a b w) (omega (arith, ints, i.from)) i.order (omega (arith, ints, i.to)) cur c i.clear)
 
-    one : (k : ℤ) → SameOption eq (at new k) (painted a b w (at cur) k)
+    one : (k : ℤ) → SameOption eq (at new k) (painted_content a b w (at cur) k)
     one k = same_along eq {a = at new k} refl (is_put.content k) (same_itself eq laws (at new k))
 
     joined : IsJoinedBut eq all new
@@ -136,7 +136,7 @@ module _ {V : Type 0} (eq : V → V → Bool) (laws : IsEquivalence eq) where
     room_more n some r = omega (arith, ints, keys_among never_equal low high new some is_put.ordered (is_put.are_keys r.are_keys), is_put.count, r.counted)
 
   -- if the keys before a have values, the fill from a on is the whole fill
-  filled_from : (content : ℤ → Option V) (v : V) (l a h : ℤ) → l ≤ℤ a → a ≤ℤ h → ((k : ℤ) → l ≤ℤ k → k <ℤ a → IsSome (content k)) → (k : ℤ) → filled a h v content k ≡ filled l h v content k
+  filled_from : (content : ℤ → Option V) (v : V) (l a h : ℤ) → l ≤ℤ a → a ≤ℤ h → ((k : ℤ) → l ≤ℤ k → k <ℤ a → IsSome (content k)) → (k : ℤ) → filled_content a h v content k ≡ filled_content l h v content k
   filled_from content v l a h o p s k = by_lt_z k a
       (λ u. filled_under content v a h k u ∙ by_lt_z k l
       (λ m. sym (filled_under content v l h k m))
@@ -150,12 +150,12 @@ module _ {V : Type 0} (eq : V → V → Bool) (laws : IsEquivalence eq) where
       → SameContent eq new put → AreStartsKept eq (at put) put new → IsCanonical eq new → AreKeys low high new → IsFilled eq low high (entry l h v) old new
   filled_whole low high l h a b v starts join_keys old put new d g f s t c k = record {
     range_map = record { runs = one_per_run eq laws new c; keys = k };
-    content = λ j. same_trans eq laws (at new j) (at put j) (filled l h v (at old) j) (s j) (whole j);
-    kept = are_kept eq laws (filled l h v (at old)) old new d c (λ j. same_trans eq laws (at new j) (at put j) (filled l h v (at old) j) (s j) (whole j))
-        (λ e x r. t e (f.kept e x) (run_start_as eq laws (filled l h v (at old)) (at put) e.lo whole r));
+    content = λ j. same_trans eq laws (at new j) (at put j) (filled_content l h v (at old) j) (s j) (whole j);
+    kept = are_kept eq laws (filled_content l h v (at old)) old new d c (λ j. same_trans eq laws (at new j) (at put j) (filled_content l h v (at old) j) (s j) (whole j))
+        (λ e x r. t e (f.kept e x) (run_start_as eq laws (filled_content l h v (at old)) (at put) e.lo whole r));
   }
     where
-      whole : (j : ℤ) → SameOption eq (at put j) (filled l h v (at old) j)
+      whole : (j : ℤ) → SameOption eq (at put j) (filled_content l h v (at old) j)
       whole j = same_along eq {a = at put j} refl (filled_from (at old) v l a h g.from (omega (arith, ints, g.order, g.to)) g.held j) (f.content j)
 
   -- if a gap exists, not each key has a value

@@ -1,5 +1,5 @@
 -- An entry is inserted into a gap of an ordered list.
-use Rattle.blaze_table.proofs.Words.{◌≡◌, ℤ, pos, ◌+ℤ◌, ◌-ℤ◌, ◌≤ℤ◌, ◌<ℤ◌, Bool, cond, true, false, List, [], ◌∷◌, Option, Some, None, refl, ◌∙◌, sym, ap, arith, inl, inr, ◌⊎◌, Contains, ints, by_lt_z, start_at, with_entry, by_order, AreKeys, HasStart, keys_in, Entry, at, holds, never_equal, IsOrdered, IsClearFrom, painted}
+use Rattle.blaze_table.proofs.Words.{◌≡◌, ℤ, pos, ◌+ℤ◌, ◌-ℤ◌, ◌≤ℤ◌, ◌<ℤ◌, Bool, cond, true, false, List, [], ◌∷◌, Option, Some, None, refl, ◌∙◌, sym, ap, arith, inl, inr, ◌⊎◌, Contains, ints, by_lt_z, start_at, with_entry, by_order, AreKeys, HasStart, keys_in, Entry, at, holds, never_equal, IsOrdered, IsClearFrom, painted_content}
 use Rattle.blaze_table.proofs.Canonical.Lookup.{IsAbove, IsAbove-from_apart, at_in, at_under, at_over, holds_under, holds_over, above_by}
 use Rattle.blaze_table.proofs.Paints.Kept.{by_first, same_in, later_in}
 use Rattle.blaze_table.proofs.Fills.Ordered.{apart_by}
@@ -11,7 +11,7 @@ module _ {V : Type 0} (low high : ℤ) (p : Entry V) where
     pub above : (b : ℤ) → IsAbove b es → b <ℤ p.lo → IsAbove b new
     pub are_keys : AreKeys low high es → AreKeys low high new
     pub count : keys_in new ≡ keys_in es +ℤ ((p.hi -ℤ p.lo) +ℤ pos 1)
-    pub content : (k : ℤ) → at new k ≡ painted p.lo p.hi p.value (at es) k
+    pub content : (k : ℤ) → at new k ≡ painted_content p.lo p.hi p.value (at es) k
     pub starts : (k : ℤ) → HasStart new k → (k ≡ p.lo) ⊎ HasStart es k
     pub absent : start_at p.lo es ≡ None
     pub kept : (e : Entry V) → Contains es e → Contains new e

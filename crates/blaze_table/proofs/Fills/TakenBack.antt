@@ -1,5 +1,5 @@
 -- Entries are inserted, recorded by their starts, and removed again.
-use Rattle.blaze_table.proofs.Words.{◌≡◌, ℤ, List, [], ◌∷◌, ◌++◌, Some, None, map, refl, ◌∙◌, sym, subst, ap, IsSome, option_to_list, start_at, with_entry, without, Entry, AreThere, GoesBack, taken}
+use Rattle.blaze_table.proofs.Words.{◌≡◌, ℤ, List, [], ◌∷◌, ◌++◌, Some, None, map, refl, ◌∙◌, sym, subst, ap, IsSome, option_to_list, start_at, with_entry, without, Entry, AreThere, GoesBack, without_all}
 use Rattle.blaze_entries.proofs.EditLists.{start_with, without_with}
 
 pub map_last : {A B : Type 0} (f : A → B) (xs : List A) (x : A) → map f (xs ++ x ∷ []) ≡ map f xs ++ f x ∷ []
@@ -10,7 +10,7 @@ pub map_none : {A B : Type 0} (f : A → B) (xs : List A) → xs ≡ [] → map 
 map_none f xs q = ap (map f) q
 
 module _ {V : Type 0} where
-  pub taken_last : (ss : List ℤ) (t : ℤ) (es : List (Entry V)) → taken (ss ++ t ∷ []) es ≡ taken ss (without t es)
+  pub taken_last : (ss : List ℤ) (t : ℤ) (es : List (Entry V)) → without_all (ss ++ t ∷ []) es ≡ without_all ss (without t es)
   taken_last [] t es = refl
   taken_last (s ∷ ss) t es = ap (without s) (taken_last ss t es)
 
@@ -27,7 +27,7 @@ module _ {V : Type 0} where
       let out = without_with p es none in
       subst (λ m. GoesBack m new old) (sym q) (subst (λ n. GoesBack (ss ++ p.lo ∷ []) n old) (sym r) (record {
         there = there_more ss p.lo (with_entry p es) (subst IsSome (sym (start_with p es)) refl) (subst (AreThere ss) (sym out) g.there);
-        taken = taken_last ss p.lo (with_entry p es) ∙ ap (taken ss) out ∙ g.taken;
+        taken = taken_last ss p.lo (with_entry p es) ∙ ap (without_all ss) out ∙ g.taken;
       }))
 
   -- the remaining keys of a list after the last one is taken
@@ -38,5 +38,5 @@ module _ {V : Type 0} where
     pub there_next : AreThere (map rank all) es → IsSome (start_at (rank t) es) × AreThere (map rank rest) (without (rank t) es)
     there_next h = there_last (map rank rest) (rank t) es (subst (λ ss. AreThere ss es) parts h)
 
-    pub taken_next : taken (map rank rest) (without (rank t) es) ≡ taken (map rank all) es
-    taken_next = sym (ap (λ ss. taken ss es) parts ∙ taken_last (map rank rest) (rank t) es)
+    pub taken_next : without_all (map rank rest) (without (rank t) es) ≡ without_all (map rank all) es
+    taken_next = sym (ap (λ ss. without_all ss es) parts ∙ taken_last (map rank rest) (rank t) es)

@@ -63,12 +63,12 @@ module _ {V : Type 0} (eq : V → V → Bool) (v : V) (l h : ℤ) (w : l ≤ℤ 
               and_from (eq e.value v) (int_le h e.hi) t.1 (le_true h e.hi t.0)),
         )
 
-    pub inside_seen : (p : Seen) → IsPlanOf test l h es p → (reaches h (option_or p.first p.predecessor) ≡ true) ↔ IsInside eq l h v es
+    pub inside_seen : (p : Seen) → IsPlanOf test l h es p → (reaches h (option_or p.at_start p.predecessor) ≡ true) ↔ IsInside eq l h v es
     inside_seen p r =
-        let entry_containing : option_map (found_in test) (last_below (l +ℤ pos 1) es) ≡ option_or p.first p.predecessor = ap (option_map (found_in test)) (last_up l high None low es s) ∙ map_or (start_at l es) (last_below l es)
-        ∙ sym (ap (λ x. option_or x p.predecessor) r.first ∙ ap (option_or (option_map (found_in test) (start_at l es))) r.predecessor) in
+        let entry_containing : option_map (found_in test) (last_below (l +ℤ pos 1) es) ≡ option_or p.at_start p.predecessor = ap (option_map (found_in test)) (last_up l high None low es s) ∙ map_or (start_at l es) (last_below l es)
+        ∙ sym (ap (λ x. option_or x p.predecessor) r.at_start ∙ ap (option_or (option_map (found_in test) (start_at l es))) r.predecessor) in
         let last = inside_last (last_below (l +ℤ pos 1) es) refl in
         ((λ t. last.0 (ap (reaches h) entry_containing ∙ t)), (λ i. sym (ap (reaches h) entry_containing) ∙ last.1 i))
 
-    pub not_reached : (p : Seen) → IsPlanOf test l h es p → reaches h (option_or p.first p.predecessor) ≡ false → IsInside eq l h v es → ⊥
-    not_reached p r n i = not_both (reaches h (option_or p.first p.predecessor)) ((inside_seen p r).1 i) n
+    pub not_reached : (p : Seen) → IsPlanOf test l h es p → reaches h (option_or p.at_start p.predecessor) ≡ false → IsInside eq l h v es → ⊥
+    not_reached p r n i = not_both (reaches h (option_or p.at_start p.predecessor)) ((inside_seen p r).1 i) n

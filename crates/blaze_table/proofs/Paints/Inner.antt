@@ -142,34 +142,34 @@ module _ {V : Type 0} where
       (λ o q r. rw (r, r) (start_gone k (e.lo +ℤ pos 1) high es s.2))
 
   -- the entry that then starts at l
-  pub rest_start : {X : Type 0} (l m z low high : ℤ) (first : Option X) (tail : Option (ℤ × ℤ)) (above : Option V) (old new : List (Entry V)) → m ≤ℤ l → l ≤ℤ z → StartsAscend low high old
-      → is_some first ≡ is_some (start_at l old) → IsTailSplit m z tail above old new → is_removed l first tail ≡ is_some (start_at l new)
+  pub rest_start : {X : Type 0} (l m z low high : ℤ) (at_start : Option X) (tail : Option (ℤ × ℤ)) (above : Option V) (old new : List (Entry V)) → m ≤ℤ l → l ≤ℤ z → StartsAscend low high old
+      → is_some at_start ≡ is_some (start_at l old) → IsTailSplit m z tail above old new → is_removed l at_start tail ≡ is_some (start_at l new)
   rest_start l m z low high None None above old new w u s f q = f ∙ ap (λ xs. is_some (start_at l xs)) (sym q)
   rest_start l m z low high (Some x) None above old new w u s f q = f ∙ ap (λ xs. is_some (start_at l xs)) (sym q)
-  rest_start {X} l m z low high first (Some r) above old new w u s f q = ⊎_elim (λ p. put above p.0 p.1) (λ p. shifted p.1) q
+  rest_start {X} l m z low high at_start (Some r) above old new w u s f q = ⊎_elim (λ p. put above p.0 p.1) (λ p. shifted p.1) q
     where
       -- it is not the entry that keeps its keys above the range
-      other : (first : Option X) → (int_lt l r.0 || int_lt r.0 l) ≡ true → is_removed l first (Some r) ≡ is_some first
+      other : (at_start : Option X) → (int_lt l r.0 || int_lt r.0 l) ≡ true → is_removed l at_start (Some r) ≡ is_some at_start
       other None t = refl
       other (Some x) t = t
 
-      same_one : (first : Option X) → (int_lt l r.0 || int_lt r.0 l) ≡ false → is_removed l first (Some r) ≡ false
+      same_one : (at_start : Option X) → (int_lt l r.0 || int_lt r.0 l) ≡ false → is_removed l at_start (Some r) ≡ false
       same_one None t = refl
       same_one (Some x) t = t
 
-      put : (o : Option V) → r.0 <ℤ m → IsSomeAnd o (λ v. new ≡ with_entry (entry (z +ℤ pos 1) r.1 v) old) → is_removed l first (Some r) ≡ is_some (start_at l new)
+      put : (o : Option V) → r.0 <ℤ m → IsSomeAnd o (λ v. new ≡ with_entry (entry (z +ℤ pos 1) r.1 v) old) → is_removed l at_start (Some r) ≡ is_some (start_at l new)
       put None a n = absurd n
       put (Some v) a n =
-          other first (rw (lt_false l r.0 (omega (arith, ints)), lt_true r.0 l (omega (arith, ints))) refl) ∙ f
+          other at_start (rw (lt_false l r.0 (omega (arith, ints)), lt_true r.0 l (omega (arith, ints))) refl) ∙ f
           ∙ sym (ap (λ o. is_some o) (ap (start_at l) n ∙ start_beside l (entry (z +ℤ pos 1) r.1 v) old (λ t. absurd (omega (arith, ints)))))
 
-      shifted : IsStartMoved r.0 (z +ℤ pos 1) old new → is_removed l first (Some r) ≡ is_some (start_at l new)
+      shifted : IsStartMoved r.0 (z +ℤ pos 1) old new → is_removed l at_start (Some r) ≡ is_some (start_at l new)
       shifted i =
           let at_l : start_at l new ≡ start_at l (without r.0 old) = ap (start_at l) i.moved ∙ start_beside l (entry (z +ℤ pos 1) i.of.hi i.of.value) (without r.0 old) (λ t. absurd (omega (arith, ints))) in
           by_order l r.0
-          (λ o p t. other first (rw (lt_true l r.0 o) refl) ∙ f ∙ sym (ap (λ y. is_some y) (at_l ∙ start_beside_without l r.0 old (λ t. absurd (omega (arith, ints))))))
-          (λ o p t. same_one first (rw (lt_false l r.0 (omega (arith, ints)), lt_false r.0 l (omega (arith, ints))) refl) ∙ sym (ap (λ y. is_some y) (at_l ∙ ap (λ k. start_at l (without k old)) (sym o) ∙ start_gone l low high old s)))
-          (λ o p t. other first (rw (lt_false l r.0 (omega (arith, ints)), lt_true r.0 l o) refl) ∙ f ∙ sym (ap (λ y. is_some y) (at_l ∙ start_beside_without l r.0 old (λ t. absurd (omega (arith, ints))))))
+          (λ o p t. other at_start (rw (lt_true l r.0 o) refl) ∙ f ∙ sym (ap (λ y. is_some y) (at_l ∙ start_beside_without l r.0 old (λ t. absurd (omega (arith, ints))))))
+          (λ o p t. same_one at_start (rw (lt_false l r.0 (omega (arith, ints)), lt_false r.0 l (omega (arith, ints))) refl) ∙ sym (ap (λ y. is_some y) (at_l ∙ ap (λ k. start_at l (without k old)) (sym o) ∙ start_gone l low high old s)))
+          (λ o p t. other at_start (rw (lt_false l r.0 (omega (arith, ints)), lt_true r.0 l o) refl) ∙ f ∙ sym (ap (λ y. is_some y) (at_l ∙ start_beside_without l r.0 old (λ t. absurd (omega (arith, ints))))))
 
   -- the entries that start up to a key, without the one that starts at it
   pub below_gone : (k b high : ℤ) (es : List (Entry V)) → StartsAscend b high es → below (k +ℤ pos 1) (without k es) ≡ below k es
@@ -202,7 +202,7 @@ module _ {V : Type 0} where
 -- if an entry starts at l, the one below it does not extend above z
 pub place_over : {T V : Type 0} (eq : V → V → Bool) (rank : T → ℤ) (l low high : ℤ) (es : List (Entry V)) (plan : Plan T) (above : Option V) → StartsAscend low high es → IsCanonical eq es → IsSome (start_at l es)
     → IsEditPlan rank eq l es plan above → IsEditPlan rank eq l es plan None
-place_over {T} {V} eq rank l low high es plan above s c here p = record { order = p.order; tail = p.tail; predecessor = p.predecessor; first = p.first; removed_count = p.removed_count; above = by_last (last_below l es) refl }
+place_over {T} {V} eq rank l low high es plan above s c here p = record { order = p.order; tail = p.tail; predecessor = p.predecessor; at_start = p.at_start; removed_count = p.removed_count; tail_value = by_last (last_below l es) refl }
   where
     by_start : (e : Entry V) → last_below l es ≡ Some e → (o : Option (Entry V)) → start_at l es ≡ o → IsSome o → rank plan.end <ℤ e.hi → ⊥
     by_start e q None r i u = cc

@@ -191,7 +191,7 @@ module _ {V : Type 0} (eq : V → V → Bool) (laws : IsEquivalence eq) where
             let over = r.over in
             let order = p.order in
             let reach : z <ℤ e.hi = subst (λ (x : Entry V). z <ℤ x.hi) same (omega (arith, ints)) in
-            subst (λ o. IfSome o (λ x. z <ℤ x.hi → IsSomeAnd above (λ v. eq x.value v ≡ true))) (around_last eq t.0 l e es c q u (omega (arith, ints))) p.above reach
+            subst (λ o. IfSome o (λ x. z <ℤ x.hi → IsSomeAnd above (λ v. eq x.value v ≡ true))) (around_last eq t.0 l e es c q u (omega (arith, ints))) p.tail_value reach
 
     -- so `above` is `Some`
     pub above_there : IfSome plan.tail (λ r. rank r.start <ℤ l → IsSome above)

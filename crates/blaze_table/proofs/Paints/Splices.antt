@@ -1,5 +1,5 @@
 -- A painted list: its value at each key, its canonical form and its length.
-use Rattle.blaze_table.proofs.Words.{◌≡◌, ◌+◌, ◌≤◌, ℤ, pos, ◌+ℤ◌, ◌-ℤ◌, ◌≤ℤ◌, ◌<ℤ◌, Bool, true, false, cond, List, [], ◌∷◌, length, Option, Some, None, refl, ◌∙◌, sym, ap, arith, option_or, int_lt, int_le, ints, by_lt_z, IsEquivalence, and_parts, by_bool, lt_true, lt_false, le_true, le_false, eq_holds, eq_true, and_fails, same_along, same_itself, same_trans, Entry, holds, at, SameOption, entry, IsApart, IsCanonical, before, after, is_joinable, join, glue, paint, IsBelow, painted}
+use Rattle.blaze_table.proofs.Words.{◌≡◌, ◌+◌, ◌≤◌, ℤ, pos, ◌+ℤ◌, ◌-ℤ◌, ◌≤ℤ◌, ◌<ℤ◌, Bool, true, false, cond, List, [], ◌∷◌, length, Option, Some, None, refl, ◌∙◌, sym, ap, arith, option_or, int_lt, int_le, ints, by_lt_z, IsEquivalence, and_parts, by_bool, lt_true, lt_false, le_true, le_false, eq_holds, eq_true, and_fails, same_along, same_itself, same_trans, Entry, holds, at, SameOption, entry, IsApart, IsCanonical, before, after, is_joinable, join, glue, paint, IsBelow, painted_content}
 use Rattle.blaze_table.proofs.Canonical.Lookup.{IsAbove, at_in, at_under, at_over, by_place, at_before, holds_in, holds_under, holds_over}
 
 module _ {V : Type 0} where
@@ -203,7 +203,7 @@ module _ {V : Type 0} (eq : V → V → Bool) where
       pub at_left : (k : ℤ) → SameOption eq (at left k) (option_or (at (before l es) k) (at (entry l h v ∷ []) k))
       at_left k = at_glue (before l es) (entry l h v ∷ []) k (canonical_before l es c) (w, tt, tt)
 
-      pub three : (k : ℤ) → option_or (option_or (at (before l es) k) (at (entry l h v ∷ []) k)) (at (after h es) k) ≡ painted l h v (at es) k
+      pub three : (k : ℤ) → option_or (option_or (at (before l es) k) (at (entry l h v ∷ []) k)) (at (after h es) k) ≡ painted_content l h v (at es) k
       three k = by_place (entry l h v) k
           (λ a b. rw (at-before_over l k es a, holds_in (entry l h v) k a b) refl)
           (λ a. rw (at-before_under l k es c a, holds_under (entry l h v) k a) (or_last (at es k) (at (after h es) k) (at_before eq (after h es) h k (canonical_after h es c) (above_after h es) (omega (arith, ints)))))

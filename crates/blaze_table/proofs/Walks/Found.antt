@@ -104,13 +104,13 @@ module _ {V : Type 0} (eq : V → V → Bool) (l h low high : ℤ) (w : l ≤ℤ
 
     pub found_by_walk : (p : Seen) → IsSeenIn test l h es p → (n : ℕ) → pos n +ℤ covered_keys l h es ≡ pos len → (is_clone : V → V → Type 0) → ClonesAreAlike is_clone eq → (o : Option V) → IsAboveCloned is_clone test l h es o → IsWalkOf eq test l h es p n o
     found_by_walk p i n q is_clone k o a = record {
-      plan = record { end = subst (IsJoinedEnd test h es) (sym i.end) (end_is eq test h high low es s t.canonical); tail = i.tail; first = i.first; predecessor = i.predecessor; removed_count = i.removed_count };
+      plan = record { end = subst (IsJoinedEnd test h es) (sym i.end) (end_is eq test h high low es s t.canonical); tail = i.tail; at_start = i.at_start; predecessor = i.predecessor; removed_count = i.removed_count };
       keys_outside = omega (arith, ints, q, t.counted, keys_apart eq l h es w t.canonical);
-      above = like_cloned eq is_clone k test h (last_below l es) o a;
+      tail_value = like_cloned eq is_clone k test h (last_below l es) o a;
     }
 
     pub walked : {is_clone : V → V → Type 0} {wanted : Bool} {p : Seen} {n : ℕ} {o v : Option V} → ClonesAreAlike is_clone eq → IsWalk is_clone test wanted l h len es p n o v → IsWalkOf eq test l h es p n o
-    walked {is_clone} {p = p} {n} {o} k i = found_by_walk p i.plan n i.keys_outside is_clone k o i.above
+    walked {is_clone} {p = p} {n} {o} k i = found_by_walk p i.plan n i.keys_outside is_clone k o i.tail_value
 
 -- the results are true after the lookups
 pub found_still : {V : Type 0} {eq : V → V → Bool} {test : V → Bool} {l h : ℤ} {old mid : CountedEntries V} {p : Seen} {n : ℕ} {o : Option V} → HasEditLookups l h old mid → IsWalkOf eq test l h old.entries p n o → IsWalkOf eq test l h mid.entries p n o

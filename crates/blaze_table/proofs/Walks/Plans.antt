@@ -123,9 +123,9 @@ module _ {V : Type 0} (eq : V → V → Bool) (test : V → Bool) (l h : ℤ) (w
         order = omega (arith, ints);
         tail = rest_is (shown_plan rank plan) up i;
         predecessor = left_is rank test l low high es s plan.predecessor i.predecessor;
-        first = found_ends rank test plan.first (start_at l es) i.first;
+        at_start = found_ends rank test plan.at_start (start_at l es) i.at_start;
         removed_count = i.removed_count;
-        above = like;
+        tail_value = like;
       }
 
 -- the start of the entry that a range is joined with

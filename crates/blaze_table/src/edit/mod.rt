@@ -14,11 +14,11 @@ mod room;
 
 use blaze_entries::{Counted, Plan};
 use blaze_int::Integer;
-use place::{put, split_tail};
+use place::{insert_or_replace, split_tail};
 use room::{clear, clear_above, is_removed, trim};
 use std::alloc::AllocError;
 
-/// Inserts an entry from `lo` to the plan's end. It requires that the entry is joined with none below it. `above` is
+/// Inserts an entry from `lo` to the plan's end. It requires that the entry is joined with none below it. `tail_value` is
 /// equal to the value of the entry that extends both below and above the range, if one exists. If an allocation fails,
 /// the entries are unchanged.
 pub fn set_entry<T: Integer, V: Eq + Drop>(
@@ -26,10 +26,10 @@ pub fn set_entry<T: Integer, V: Eq + Drop>(
     lo: T,
     value: V,
     plan: Plan<T>,
-    above: Option<V>,
+    tail_value: Option<V>,
 ) -> Result<(), AllocError>
     requires canonical { IsCanonical V.eq entries.old.entries }
-    requires place { IsEditPlan T.rank V.eq (T.rank lo) entries.old.entries plan above }
+    requires place { IsEditPlan T.rank V.eq (T.rank lo) entries.old.entries plan tail_value }
     ensures put { OnOk result
         (IsEntryBetween V.eq
         (entry (T.rank lo) (T.rank plan.end) value) entries.old.entries entries.new.entries) }
@@ -37,7 +37,7 @@ pub fn set_entry<T: Integer, V: Eq + Drop>(
     ensures err { OnErr result (IsRefused entries.old entries.new) }
 {
     entries.in_hand();
-    put(entries, lo, value, plan, above)?;
+    insert_or_replace(entries, lo, value, plan, tail_value)?;
     entries.in_hand();
     trim(entries, lo, plan.predecessor);
     entries.in_hand();
@@ -64,22 +64,22 @@ pub fn extend<T: Integer, V: Eq + Drop>(
     entries.in_hand();
     split_tail(entries, lo, plan.end, plan.tail, None)?;
     entries.in_hand();
-    let is_first_removed = is_removed(lo, plan.first, plan.tail);
+    let is_first_removed = is_removed(lo, plan.at_start, plan.tail);
     clear(entries, lo, is_first_removed, plan.removed_count);
     entries.set_end(first, plan.end);
     Ok(())
 }
 
-/// Removes the keys from `lo` to the plan's end. `above` is equal to the value of the entry that extends both below and
+/// Removes the keys from `lo` to the plan's end. `tail_value` is equal to the value of the entry that extends both below and
 /// above them, if one exists. If an allocation fails, the entries are unchanged.
 pub fn remove_keys<T: Integer, V: Eq + Drop>(
     entries: &mut Counted<T, V>,
     lo: T,
     plan: Plan<T>,
-    above: Option<V>,
+    tail_value: Option<V>,
 ) -> Result<(), AllocError>
     requires canonical { IsCanonical V.eq entries.old.entries }
-    requires place { IsEditPlan T.rank V.eq (T.rank lo) entries.old.entries plan above }
+    requires place { IsEditPlan T.rank V.eq (T.rank lo) entries.old.entries plan tail_value }
     ensures cut { OnOk result (IsRangeTaken V.eq
         (T.rank lo) (T.rank plan.end) entries.old.entries entries.new.entries) }
     ensures worked { OnOk result (IsWorked 1 0 entries.old entries.new) }
@@ -87,11 +87,11 @@ pub fn remove_keys<T: Integer, V: Eq + Drop>(
     ensures err { OnErr result (IsRefused entries.old entries.new) }
 {
     entries.in_hand();
-    split_tail(entries, lo, plan.end, plan.tail, above)?;
+    split_tail(entries, lo, plan.end, plan.tail, tail_value)?;
     entries.in_hand();
     trim(entries, lo, plan.predecessor);
     entries.in_hand();
-    let is_first_removed = is_removed(lo, plan.first, plan.tail);
+    let is_first_removed = is_removed(lo, plan.at_start, plan.tail);
     clear(entries, lo, is_first_removed, plan.removed_count);
     Ok(())
 }

@@ -16,19 +16,19 @@ use blaze_int::compare::is_below;
 use std::alloc::AllocError;
 
 /// If an entry extends past `end`, makes the part above `end` a separate entry. The entry itself is moved there, or, if
-/// it starts below `lo`, a new entry with the value `above` is inserted. If an allocation fails, the entries are
+/// it starts below `lo`, a new entry with the value `tail_value` is inserted. If an allocation fails, the entries are
 /// unchanged.
 pub fn split_tail<T: Integer, V: Drop>(
     entries: &mut Counted<T, V>,
     lo: T,
     end: T,
     tail: Option<RangeEntry<T, ()>>,
-    above: Option<V>,
+    tail_value: Option<V>,
 ) -> Result<(), AllocError>
     requires room { HasRoom (T.rank end) entries.old.entries (option_map (shown_ends T.rank) tail) }
-    requires above { IfSome tail (λ r. T.rank r.start <ℤ T.rank lo → IsSome above) }
+    requires tail_value { IfSome tail (λ r. T.rank r.start <ℤ T.rank lo → IsSome tail_value) }
     ensures put { OnOk result (IsTailSplit (T.rank lo) (T.rank end)
-        (option_map (shown_ends T.rank) tail) above entries.old.entries entries.new.entries) }
+        (option_map (shown_ends T.rank) tail) tail_value entries.old.entries entries.new.entries) }
     ensures worked { OnOk result (IsWorked 1 0 entries.old entries.new) }
     ensures refused { OnErr result (IsSome tail) }
     ensures err { OnErr result (entries.new ≡ entries.old) }
@@ -39,7 +39,7 @@ pub fn split_tail<T: Integer, V: Drop>(
             ends.end.in_hand();
             let next = end.add_one();
             if is_below(ends.start, lo) {
-                match above {
+                match tail_value {
                     Some(value) => entries.insert(next, ends.end, value),
                     None => unreachable!(),
                 }
@@ -56,10 +56,10 @@ fn insert_planned<T: Integer, V: Eq + Drop>(
     lo: T,
     value: V,
     plan: Plan<T>,
-    above: Option<V>,
+    tail_value: Option<V>,
 ) -> Result<(), AllocError>
     requires canonical { IsCanonical V.eq entries.old.entries }
-    requires place { IsEditPlan T.rank V.eq (T.rank lo) entries.old.entries plan above }
+    requires place { IsEditPlan T.rank V.eq (T.rank lo) entries.old.entries plan tail_value }
     requires absent { start_at (T.rank lo) entries.old.entries ≡ None }
     ensures ok { OnOk result (IsEntrySet V.eq
         (entry (T.rank lo) (T.rank plan.end) value) entries.old.entries entries.new.entries) }
@@ -70,7 +70,7 @@ fn insert_planned<T: Integer, V: Eq + Drop>(
 {
     entries.in_hand();
     entries.insert(lo, plan.end, value)?;
-    if let Err(refused) = split_tail(entries, lo, plan.end, plan.tail, above) {
+    if let Err(refused) = split_tail(entries, lo, plan.end, plan.tail, tail_value) {
         entries.remove(lo);
         return Err(refused);
     }
@@ -116,15 +116,15 @@ fn replace_planned<T: Integer, V: Eq + Drop>(
 
 /// Inserts an entry from `lo` to the plan's end, or replaces the entry that starts at `lo` if the plan has one. The
 /// part above becomes a separate entry. If an allocation fails, the entries are unchanged.
-pub fn put<T: Integer, V: Eq + Drop>(
+pub fn insert_or_replace<T: Integer, V: Eq + Drop>(
     entries: &mut Counted<T, V>,
     lo: T,
     value: V,
     plan: Plan<T>,
-    above: Option<V>,
+    tail_value: Option<V>,
 ) -> Result<(), AllocError>
     requires canonical { IsCanonical V.eq entries.old.entries }
-    requires place { IsEditPlan T.rank V.eq (T.rank lo) entries.old.entries plan above }
+    requires place { IsEditPlan T.rank V.eq (T.rank lo) entries.old.entries plan tail_value }
     ensures ok { OnOk result (IsEntrySet V.eq
         (entry (T.rank lo) (T.rank plan.end) value) entries.old.entries entries.new.entries) }
     ensures removed_count { OnOk result
@@ -133,8 +133,8 @@ pub fn put<T: Integer, V: Eq + Drop>(
     ensures err { OnErr result (IsRefused entries.old entries.new) }
 {
     entries.in_hand();
-    match plan.first {
+    match plan.at_start {
         Some(_) => replace_planned(entries, lo, value, plan),
-        None => insert_planned(entries, lo, value, plan, above),
+        None => insert_planned(entries, lo, value, plan, tail_value),
     }
 }

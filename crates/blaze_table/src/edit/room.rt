@@ -16,12 +16,12 @@ use blaze_int::compare::{is_at_most, is_below};
 /// Returns whether an edit removes the entry that starts at `lo`: it exists and does not extend above the range.
 pub fn is_removed<T: Integer>(
     lo: T,
-    first: Option<RangeEntry<T, bool>>,
+    at_start: Option<RangeEntry<T, bool>>,
     tail: Option<RangeEntry<T, ()>>,
 ) -> bool
-    ensures { result ≡ is_removed (T.rank lo) first (option_map (shown_ends T.rank) tail) }
+    ensures { result ≡ is_removed (T.rank lo) at_start (option_map (shown_ends T.rank) tail) }
 {
-    match (first, tail) {
+    match (at_start, tail) {
         (None, _) => false,
         (Some(_), None) => true,
         (Some(_), Some(ends)) => is_below(lo, ends.start) || is_below(ends.start, lo),

@@ -4,7 +4,7 @@ ghost use Rattle.blaze_table.specs.Entries.{shown_list};
 ghost use Rattle.blaze_table.specs.Painted.{ClonesAreAlike};
 ghost use Rattle.blaze_table.specs.Pieces.{EndsAreKeys, ArePieces, IsCanonicalOfPlaced};
 
-use crate::sweep::held::{held_of, put_piece};
+use crate::sweep::pair_value::{pair_values_of, put_piece};
 use crate::sweep::placed::Placed;
 use blaze_int::Integer;
 use std::alloc::{AllocError, Global};
@@ -23,12 +23,12 @@ pub(crate) fn entries_of_pieces<T: Integer, V: Eq + Clone>(
     ensures { IfOk result (λ entries. IsCanonicalOfPlaced V.eq T.rank T.low T.high placed.items
         (shown_list T.rank entries.items)) }
 {
-    let mut held = held_of(alloc, placed)?;
+    let mut values = pair_values_of(alloc, placed)?;
     let mut entries = Vec::new(alloc);
     for (start, end, index) in pieces {
         start.in_hand();
         end.in_hand();
-        put_piece(&mut held, &mut entries, start, end, index)?;
+        put_piece(&mut values, &mut entries, start, end, index)?;
     }
     Ok(entries)
 }

@@ -14,7 +14,7 @@ use std::alloc::{AllocError, Global};
 
 mod ascending;
 mod fill;
-mod held;
+mod pair_value;
 mod pieces;
 mod placed;
 mod push;

@@ -81,7 +81,7 @@ impl<T: Integer, V: Eq + Clone> RangeTable<T, V> {
         let old_len = self.len;
         let entries = &mut self.entries.counted;
         let mut found = entries.walk(old_len, key, key, Some(&value), true)?;
-        let old = found.value.take();
+        let old = found.old_value.take();
         let new_len = paint_planned(entries, old_len, key, key, value, found)?;
         self.len = new_len;
         Ok(old)

@@ -1,5 +1,5 @@
 -- One map's entries filled into the gaps of another.
-use Rattle.range_map_blaze.proofs.Words.{option_or, ◌≡◌, ℤ, pos, ◌-ℤ◌, ◌<ℤ◌, Bool, true, false, cond, List, [], ◌∷◌, ◌++◌, Option, Some, None, refl, ◌∙◌, sym, ap, subst, arith, inr, Result, Ok, Err, OnOk, IsSome, IsEquivalence, Contains, ints, same_along, same_back, same_itself, same_trans, same_or, or_none, or_assoc, Entry, entry, at, holds, SameOption, IsCanonical, IsRangeMap, IsRunStart, filled, IsFilled, above_low, at_append, canonical, start_along, unique, run_start_as, all_kept, are_kept, kept_further, value_in, over_in, IsFilledFrom, FillingIsUnion, IsFilledSomewhere, IsUnion}
+use Rattle.range_map_blaze.proofs.Words.{option_or, ◌≡◌, ℤ, pos, ◌-ℤ◌, ◌<ℤ◌, Bool, true, false, cond, List, [], ◌∷◌, ◌++◌, Option, Some, None, refl, ◌∙◌, sym, ap, subst, arith, inr, Result, Ok, Err, OnOk, IsSome, IsEquivalence, Contains, ints, same_along, same_back, same_itself, same_trans, same_or, or_none, or_assoc, Entry, entry, at, holds, SameOption, IsCanonical, IsRangeMap, IsRunStart, filled_content, IsFilled, above_low, at_append, canonical, start_along, unique, run_start_as, all_kept, are_kept, kept_further, value_in, over_in, IsFilledFrom, FillingIsUnion, IsFilledSomewhere, IsUnion}
 use Rattle.range_map_blaze.proofs.Paints.Nowhere.{no_key}
 use Rattle.range_map_blaze.proofs.Paints.PaintedOver.{turned}
 use Rattle.range_map_blaze.proofs.Unions.{union_of}
@@ -16,7 +16,7 @@ module _ {V : Type 0} (eq : V → V → Bool) (laws : IsEquivalence eq) (low hig
   filled_nowhere p es w r = record {
     range_map = r;
     content = λ k. same_along eq {a = at es k} refl (sym (ap (λ b. option_or (at es k) (cond b (Some p.value) None)) (no_key p.lo p.hi k w) ∙ or_none (at es k))) (same_itself eq laws (at es k));
-    kept = all_kept eq (filled p.lo p.hi p.value (at es)) es;
+    kept = all_kept eq (filled_content p.lo p.hi p.value (at es)) es;
   }
 
   grown : (a b c d : Option V) → SameOption eq a b → IsSome b → SameOption eq (option_or a c) (option_or b d)
@@ -44,7 +44,7 @@ module _ {V : Type 0} (eq : V → V → Bool) (laws : IsEquivalence eq) (low hig
       kept = are_kept eq laws all old new d (canonical eq laws new f.range_map.runs) content
           (λ x c s.
           let k = u.kept.starts x c (start_before from (at (e ∷ [])) x.lo (had x c) (start_along eq laws all (λ j. option_or (from j) (at (e ∷ []) j)) x.lo (sym (parts x.lo)) (sym (parts (x.lo -ℤ pos 1))) s)) in
-          kept_further new x k.0 k.1 (f.kept.starts (entry x.lo k.0 x.value) k.2 (run_start_as eq laws all (filled e.lo e.hi w (at cur)) x.lo one s)));
+          kept_further new x k.0 k.1 (f.kept.starts (entry x.lo k.0 x.value) k.2 (run_start_as eq laws all (filled_content e.lo e.hi w (at cur)) x.lo one s)));
     }
       where
         from : ℤ → Option V
@@ -66,12 +66,12 @@ module _ {V : Type 0} (eq : V → V → Bool) (laws : IsEquivalence eq) (low hig
         either true = laws.symm w e.value ∙ like
         either false = tt
 
-        one : (j : ℤ) → SameOption eq (filled e.lo e.hi w (at cur) j) (all j)
-        one j = same_along eq {a = filled e.lo e.hi w (at cur) j} refl (parts j)
+        one : (j : ℤ) → SameOption eq (filled_content e.lo e.hi w (at cur) j) (all j)
+        one j = same_along eq {a = filled_content e.lo e.hi w (at cur) j} refl (parts j)
             (same_or eq (at cur j) (from j) (cond (holds e j) (Some w) None) (at (e ∷ []) j) (u.content j) (either (holds e j)))
 
         content : (j : ℤ) → SameOption eq (at new j) (all j)
-        content j = same_trans eq laws (at new j) (filled e.lo e.hi w (at cur) j) (all j) (f.content j) (one j)
+        content j = same_trans eq laws (at new j) (filled_content e.lo e.hi w (at cur) j) (all j) (f.content j) (one j)
 
     -- all entries of a range map: its union with the old list over it
     pub union_under : (left new : List (Entry V)) → IsRangeMap eq low high left → IsRangeMap eq low high old → IsFilledFrom eq low high left old new → IsUnion eq low high left old new

@@ -1,5 +1,5 @@
 -- Pairs painted one by one.
-use Rattle.range_map_blaze.proofs.Words.{◌≡◌, ℤ, ◌≤ℤ◌, ◌<ℤ◌, Bool, true, false, ◌&&◌, cond, List, [], ◌∷◌, ◌++◌, map, Some, refl, ◌∙◌, sym, subst, arith, int_le, IsEquivalence, ints, map-append, same_itself, same_trans, Entry, at, holds, SameOption, IsRangeMap, IsInside, IsPainted, painted, ArePaintedInTurn, IsPairPainted}
+use Rattle.range_map_blaze.proofs.Words.{◌≡◌, ℤ, ◌≤ℤ◌, ◌<ℤ◌, Bool, true, false, ◌&&◌, cond, List, [], ◌∷◌, ◌++◌, map, Some, refl, ◌∙◌, sym, subst, arith, int_le, IsEquivalence, ints, map-append, same_itself, same_trans, Entry, at, holds, SameOption, IsRangeMap, IsInside, IsPainted, painted_content, ArePaintedInTurn, IsPairPainted}
 use Rattle.range_map_blaze.proofs.Paints.Insides.{inside_equal}
 use Rattle.range_map_blaze.proofs.Paints.LeftAlone.{alone_equal}
 use Rattle.range_map_blaze.proofs.Paints.Nowhere.{painted_nowhere}
@@ -16,7 +16,7 @@ module _ {V : Type 0} (eq : V → V → Bool) (laws : IsEquivalence eq) (low hig
   pair_alike p q old new i lo hi v = record {
     painted = record {
       range_map = i.painted.range_map;
-      content = λ k. same_trans eq laws (at new k) (painted q.lo q.hi q.value (at old) k) (painted p.lo p.hi p.value (at old) k) (i.painted.content k) (alike k);
+      content = λ k. same_trans eq laws (at new k) (painted_content q.lo q.hi q.value (at old) k) (painted_content p.lo p.hi p.value (at old) k) (i.painted.content k) (alike k);
       few = i.painted.few;
       alone = i.painted.alone;
       kept = λ e m a. i.painted.kept e m (alone_equal eq laws e p q lo hi v a);
@@ -29,7 +29,7 @@ module _ {V : Type 0} (eq : V → V → Bool) (laws : IsEquivalence eq) (low hig
       either true k = v
       either false k = same_itself eq laws (at old k)
 
-      alike : (k : ℤ) → SameOption eq (painted q.lo q.hi q.value (at old) k) (painted p.lo p.hi p.value (at old) k)
+      alike : (k : ℤ) → SameOption eq (painted_content q.lo q.hi q.value (at old) k) (painted_content p.lo p.hi p.value (at old) k)
       alike k =
           let same : holds q k ≡ holds p k = λ i. int_le (lo i) k && int_le k (hi i) in
           subst (λ b. SameOption eq (cond b (Some q.value) (at old k)) (cond (holds p k) (Some p.value) (at old k))) (sym same) (either (holds p k) k)

@@ -6,7 +6,7 @@ ghost use Rattle.blaze_table.specs.Painted.{ClonesAreAlike};
 ghost use Rattle.range_map_blaze.specs.Made.{IsMade};
 
 use crate::map::RangeMapBlaze;
-use crate::operators::by_keys::{within_keys, within_keys_by_value};
+use crate::operators::by_keys::{within_keys, within_keys_owned};
 use blaze_int::Integer;
 use blaze_table::RangeSetBlaze;
 use std::alloc::AllocError;
@@ -31,7 +31,7 @@ impl<T: Integer, V: Eq + Clone> BitAnd for RangeMapBlaze<T, V> {
         (IsMade (IsChosen V.eq T.low T.high left_with_right right.entries left.entries)) };
 
     fn bitand(self, right: RangeMapBlaze<T, V>) -> Result<RangeMapBlaze<T, V>, AllocError> {
-        Ok(within_keys_by_value(right, &self.table)?.uncounted())
+        Ok(within_keys_owned(right, &self.table)?.uncounted())
     }
 }
 
@@ -69,7 +69,7 @@ impl<'a, T: Integer, V: Eq + Clone> BitAnd<RangeMapBlaze<T, V>> for &'a RangeMap
         (IsMade (IsChosen V.eq T.low T.high left_with_right right.entries left.now.entries)) };
 
     fn bitand(self, right: RangeMapBlaze<T, V>) -> Result<RangeMapBlaze<T, V>, AllocError> {
-        Ok(within_keys_by_value(right, &self.table)?.uncounted())
+        Ok(within_keys_owned(right, &self.table)?.uncounted())
     }
 }
 
@@ -112,7 +112,7 @@ impl<T: Integer, V: Eq + Clone> BitAnd<RangeSetBlaze<T>> for RangeMapBlaze<T, V>
         (IsMade (IsChosen V.eq T.low T.high left_with_right left.entries right)) };
 
     fn bitand(self, right: RangeSetBlaze<T>) -> Result<RangeMapBlaze<T, V>, AllocError> {
-        Ok(within_keys_by_value(self, right.as_table())?.uncounted())
+        Ok(within_keys_owned(self, right.as_table())?.uncounted())
     }
 }
 
@@ -132,7 +132,7 @@ impl<'b, T: Integer, V: Eq + Clone> BitAnd<&'b RangeSetBlaze<T>> for RangeMapBla
         (IsMade (IsChosen V.eq T.low T.high left_with_right left.entries right.now)) };
 
     fn bitand(self, right: &'b RangeSetBlaze<T>) -> Result<RangeMapBlaze<T, V>, AllocError> {
-        Ok(within_keys_by_value(self, right.as_table())?.uncounted())
+        Ok(within_keys_owned(self, right.as_table())?.uncounted())
     }
 }
 

@@ -6,7 +6,7 @@ ghost use Rattle.range_map_blaze.specs.Union.{IsUnion};
 ghost use Rattle.range_map_blaze.specs.Made.{IsMade};
 
 use crate::map::RangeMapBlaze;
-use crate::operators::union::{union, union_by_value, union_under, union_with};
+use crate::operators::union::{union, union_owned, union_under, union_with};
 use blaze_int::Integer;
 use std::alloc::AllocError;
 use std::ops::BitOr;
@@ -31,7 +31,7 @@ impl<T: Integer, V: Eq + Clone> BitOr for RangeMapBlaze<T, V> {
         (IsMade (IsUnion V.eq T.low T.high left.entries right.entries)) };
 
     fn bitor(self, right: RangeMapBlaze<T, V>) -> Result<RangeMapBlaze<T, V>, AllocError> {
-        Ok(union_by_value(self, right)?.uncounted())
+        Ok(union_owned(self, right)?.uncounted())
     }
 }
 

@@ -8,7 +8,7 @@ ghost use Rattle.range_map_blaze.specs.Made.{IsMade};
 
 use crate::map::RangeMapBlaze;
 use crate::operators::exactly_one::{
-    symmetric_difference, symmetric_difference_by_value, symmetric_difference_under,
+    symmetric_difference, symmetric_difference_owned, symmetric_difference_under,
     symmetric_difference_with,
 };
 use blaze_int::Integer;
@@ -36,7 +36,7 @@ impl<T: Integer, V: Eq + Clone> BitXor for RangeMapBlaze<T, V> {
         (IsMade (IsChosen V.eq T.low T.high option_xor left.entries right.entries)) };
 
     fn bitxor(self, right: RangeMapBlaze<T, V>) -> Result<RangeMapBlaze<T, V>, AllocError> {
-        Ok(symmetric_difference_by_value(self, right)?.uncounted())
+        Ok(symmetric_difference_owned(self, right)?.uncounted())
     }
 }
 

@@ -34,7 +34,7 @@ pub fn within_keys<T: Integer, V: Eq + Clone, W: Eq + Clone>(
 }
 
 /// The keys of an owned map that the table has too, with the map's own values. It goes through all entries of the map.
-pub fn within_keys_by_value<T: Integer, V: Eq + Clone, W: Eq + Clone>(
+pub fn within_keys_owned<T: Integer, V: Eq + Clone, W: Eq + Clone>(
     map: RangeMapBlaze<T, V>,
     keys: &RangeTable<T, W>,
 ) -> Result<RangeMapBlaze<T, V>, AllocError>
@@ -58,7 +58,7 @@ pub fn outside_keys<T: Integer, V: Eq + Clone, W: Eq + Clone>(
         keys.now.entries new.entries) }
 {
     if is_narrow(keys, &map.table) {
-        return outside_keys_by_value(map.clone()?, keys);
+        return outside_keys_owned(map.clone()?, keys);
     }
     let room = map.ranges_len();
     borrowed_chosen(
@@ -72,7 +72,7 @@ pub fn outside_keys<T: Integer, V: Eq + Clone, W: Eq + Clone>(
 
 /// The keys of an owned map that the table lacks, with the map's own values. If the table has few entries, which cover few of the
 /// map's, cuts the map in place.
-pub fn outside_keys_by_value<T: Integer, V: Eq + Clone, W: Eq + Clone>(
+pub fn outside_keys_owned<T: Integer, V: Eq + Clone, W: Eq + Clone>(
     map: RangeMapBlaze<T, V>,
     keys: &RangeTable<T, W>,
 ) -> Result<RangeMapBlaze<T, V>, AllocError>

@@ -22,7 +22,7 @@ pub fn borrowed_chosen<
     R: SortedDisjointMap<T, VCR>,
     C: Choice<&'a V, VCR>,
 >(
-    lent: &'a RangeMapBlaze<T, V>,
+    borrowed: &'a RangeMapBlaze<T, V>,
     left: L,
     right: R,
     choice: &C,
@@ -32,7 +32,7 @@ pub fn borrowed_chosen<
     ensures { IfOk result (λ new. IsChosen V.eq T.low T.high C.choice (L.left left)
         (R.left right) new.entries) }
 {
-    let alloc = lent.allocator();
+    let alloc = borrowed.allocator();
     let entries = entries_chosen_of(alloc, room, left, right, choice)?;
     let table = RangeTable::from_canonical(alloc, entries)?;
     Ok(RangeMapBlaze { table })

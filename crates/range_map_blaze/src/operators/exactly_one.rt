@@ -5,11 +5,11 @@ ghost use Rattle.blaze_table.specs.Chosen.{IsChosen};
 ghost use Rattle.blaze_table.specs.Painted.{ClonesAreAlike};
 
 use crate::map::RangeMapBlaze;
-use crate::operators::by_keys::{outside_keys, outside_keys_by_value};
+use crate::operators::by_keys::{outside_keys, outside_keys_owned};
 use crate::operators::chosen::{borrowed_chosen, owned_chosen};
 use crate::operators::few::is_narrow;
 use crate::operators::set_of::set_of;
-use crate::operators::union::union_by_value;
+use crate::operators::union::union_owned;
 use blaze_int::Integer;
 use blaze_streams::{ExactlyOne, OwnedRangeValuesIter, ranges_of};
 use std::alloc::AllocError;
@@ -39,7 +39,7 @@ pub fn symmetric_difference<T: Integer, V: Eq + Clone>(
 
 /// The keys that exactly one of two owned maps has, with their own values. If one of the maps has few entries, edits the other in
 /// place.
-pub fn symmetric_difference_by_value<T: Integer, V: Eq + Clone>(
+pub fn symmetric_difference_owned<T: Integer, V: Eq + Clone>(
     left: RangeMapBlaze<T, V>,
     right: RangeMapBlaze<T, V>,
 ) -> Result<RangeMapBlaze<T, V>, AllocError>
@@ -48,10 +48,10 @@ pub fn symmetric_difference_by_value<T: Integer, V: Eq + Clone>(
         right.entries map.entries) }
 {
     if is_narrow(&right.table, &left.table) {
-        return alone_by_value(left, right);
+        return alone_owned(left, right);
     }
     if is_narrow(&left.table, &right.table) {
-        return alone_by_value(right, left);
+        return alone_owned(right, left);
     }
     let room = left.ranges_len().saturating_add(right.ranges_len());
     owned_chosen(
@@ -105,12 +105,12 @@ fn alone<T: Integer, V: Eq + Clone>(
 {
     let left_alone = outside_keys(left, &right.table)?;
     let right_alone = outside_keys(right, &left.table)?;
-    union_by_value(left_alone, right_alone)
+    union_owned(left_alone, right_alone)
 }
 
 /// The union of what each of two owned maps has outside of the other's keys. It makes the set of the right map's keys first,
 /// since the next line consumes that map.
-fn alone_by_value<T: Integer, V: Eq + Clone>(
+fn alone_owned<T: Integer, V: Eq + Clone>(
     left: RangeMapBlaze<T, V>,
     right: RangeMapBlaze<T, V>,
 ) -> Result<RangeMapBlaze<T, V>, AllocError>
@@ -119,9 +119,9 @@ fn alone_by_value<T: Integer, V: Eq + Clone>(
         right.entries map.entries) }
 {
     let keys = set_of(right.allocator(), ranges_of(&right.table))?;
-    let right_alone = outside_keys_by_value(right, &left.table)?;
-    let left_alone = outside_keys_by_value(left, keys.as_table())?;
-    union_by_value(left_alone, right_alone)
+    let right_alone = outside_keys_owned(right, &left.table)?;
+    let left_alone = outside_keys_owned(left, keys.as_table())?;
+    union_owned(left_alone, right_alone)
 }
 
 /// The union of what an owned and a borrowed map have outside of each other's keys.
@@ -134,8 +134,8 @@ fn alone_with<T: Integer, V: Eq + Clone>(
         right.now.entries map.entries) }
 {
     let right_alone = outside_keys(right, &left.table)?;
-    let left_alone = outside_keys_by_value(left, &right.table)?;
-    union_by_value(left_alone, right_alone)
+    let left_alone = outside_keys_owned(left, &right.table)?;
+    union_owned(left_alone, right_alone)
 }
 
 /// The union of what a borrowed and an owned map have outside of each other's keys.
@@ -148,6 +148,6 @@ fn alone_under<T: Integer, V: Eq + Clone>(
         right.entries map.entries) }
 {
     let left_alone = outside_keys(left, &right.table)?;
-    let right_alone = outside_keys_by_value(right, &left.table)?;
-    union_by_value(left_alone, right_alone)
+    let right_alone = outside_keys_owned(right, &left.table)?;
+    union_owned(left_alone, right_alone)
 }

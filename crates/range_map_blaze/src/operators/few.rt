@@ -42,30 +42,30 @@ pub fn cover_few<T: Integer, V: Eq + Clone, W: Eq + Clone>(
 ) -> bool {
     let mut most = other.entries() / 8;
     for (start, end, _) in table.iter() {
-        match most_beside(other, start, end, most) {
-            Some(rest) => most = rest,
+        match remaining_most(other, start, end, most) {
+            Some(remaining) => most = remaining,
             None => return false,
         }
     }
     true
 }
 
-/// What is left of `most` after the entries of a table that start within a range, or `None` if there are more of them.
-fn most_beside<T: Integer, V: Eq + Clone>(
+/// What remains of `most` after the entries of a table that start within a range, or `None` if there are more of them.
+fn remaining_most<T: Integer, V: Eq + Clone>(
     table: &RangeTable<T, V>,
     start: T,
     end: T,
     most: usize,
 ) -> Option<usize> {
-    let mut rest = most;
+    let mut remaining = most;
     for (first, _, _) in table.iter_starting_from(start) {
         if is_below(end, first) {
-            return Some(rest);
+            return Some(remaining);
         }
-        if rest == 0 {
+        if remaining == 0 {
             return None;
         }
-        rest -= 1;
+        remaining -= 1;
     }
-    Some(rest)
+    Some(remaining)
 }

@@ -6,7 +6,7 @@ ghost use Rattle.blaze_table.specs.Painted.{ClonesAreAlike};
 ghost use Rattle.range_map_blaze.specs.Made.{IsMade};
 
 use crate::map::RangeMapBlaze;
-use crate::operators::by_keys::{outside_keys, outside_keys_by_value};
+use crate::operators::by_keys::{outside_keys, outside_keys_owned};
 use blaze_int::Integer;
 use blaze_table::RangeSetBlaze;
 use std::alloc::AllocError;
@@ -31,7 +31,7 @@ impl<T: Integer, V: Eq + Clone> Sub for RangeMapBlaze<T, V> {
         (IsMade (IsChosen V.eq T.low T.high left_alone left.entries right.entries)) };
 
     fn sub(self, right: RangeMapBlaze<T, V>) -> Result<RangeMapBlaze<T, V>, AllocError> {
-        Ok(outside_keys_by_value(self, &right.table)?.uncounted())
+        Ok(outside_keys_owned(self, &right.table)?.uncounted())
     }
 }
 
@@ -50,7 +50,7 @@ impl<'b, T: Integer, V: Eq + Clone> Sub<&'b RangeMapBlaze<T, V>> for RangeMapBla
         (IsMade (IsChosen V.eq T.low T.high left_alone left.entries right.now.entries)) };
 
     fn sub(self, right: &'b RangeMapBlaze<T, V>) -> Result<RangeMapBlaze<T, V>, AllocError> {
-        Ok(outside_keys_by_value(self, &right.table)?.uncounted())
+        Ok(outside_keys_owned(self, &right.table)?.uncounted())
     }
 }
 
@@ -112,7 +112,7 @@ impl<T: Integer, V: Eq + Clone> Sub<RangeSetBlaze<T>> for RangeMapBlaze<T, V> {
         (IsMade (IsChosen V.eq T.low T.high left_alone left.entries right)) };
 
     fn sub(self, right: RangeSetBlaze<T>) -> Result<RangeMapBlaze<T, V>, AllocError> {
-        Ok(outside_keys_by_value(self, right.as_table())?.uncounted())
+        Ok(outside_keys_owned(self, right.as_table())?.uncounted())
     }
 }
 
@@ -132,7 +132,7 @@ impl<'b, T: Integer, V: Eq + Clone> Sub<&'b RangeSetBlaze<T>> for RangeMapBlaze<
         (IsMade (IsChosen V.eq T.low T.high left_alone left.entries right.now)) };
 
     fn sub(self, right: &'b RangeSetBlaze<T>) -> Result<RangeMapBlaze<T, V>, AllocError> {
-        Ok(outside_keys_by_value(self, right.as_table())?.uncounted())
+        Ok(outside_keys_owned(self, right.as_table())?.uncounted())
     }
 }
 

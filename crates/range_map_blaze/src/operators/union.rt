@@ -67,7 +67,7 @@ fn union_on<T: Integer, V: Eq + Clone>(
 }
 
 /// The union of two owned maps, with their own values.
-pub fn union_by_value<T: Integer, V: Eq + Clone>(
+pub fn union_owned<T: Integer, V: Eq + Clone>(
     left: RangeMapBlaze<T, V>,
     right: RangeMapBlaze<T, V>,
 ) -> Result<RangeMapBlaze<T, V>, AllocError>
@@ -78,7 +78,7 @@ pub fn union_by_value<T: Integer, V: Eq + Clone>(
     match path_for(&left.table, &right.table) {
         Path::Over => painted_over(left, OwnedRangeValuesIter::new(right.table)),
         Path::Under => painted_under(OwnedRangeValuesIter::new(left.table), right),
-        Path::Merge => merged_by_value(left, right),
+        Path::Merge => merged_owned(left, right),
     }
 }
 
@@ -155,7 +155,7 @@ fn merged_over<T: Integer, V: Eq + Clone, VC: ValueCarrier<Value = V>, S: Sorted
     left.in_hand();
     right.in_hand();
     let over = RangeMapBlaze::from_sorted_disjoint_map(left.allocator(), right)?;
-    merged_by_value(left, over)
+    merged_owned(left, over)
 }
 
 /// A map whose gaps are filled with a stream's ranges.
@@ -199,7 +199,7 @@ fn merged<T: Integer, V: Eq + Clone>(
 }
 
 /// The union of two owned maps by a merge of both. A value is cloned only for a piece that is not the last of its range.
-fn merged_by_value<T: Integer, V: Eq + Clone>(
+fn merged_owned<T: Integer, V: Eq + Clone>(
     left: RangeMapBlaze<T, V>,
     right: RangeMapBlaze<T, V>,
 ) -> Result<RangeMapBlaze<T, V>, AllocError>

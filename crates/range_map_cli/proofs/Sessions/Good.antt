@@ -1,5 +1,5 @@
 -- The word of a good line is a word.
-use Rattle.range_map_cli.proofs.Words.{◌≡◌, ℕ, ℤ, List, [], ◌∷◌, true, false, cond, refl, subst, Option, Some, None, Bool, ◌&&◌, codes, option_map, bytes_eq, IfSome, int_le, int_eq, option_or, Command, Blank, Get, At, Len, Entries, command_of, command_of_words, range_of, insert_of, words_of, written_number, is_word, filled, painted, Content, content_after_command, HasWords}
+use Rattle.range_map_cli.proofs.Words.{◌≡◌, ℕ, ℤ, List, [], ◌∷◌, true, false, cond, refl, subst, Option, Some, None, Bool, ◌&&◌, codes, option_map, bytes_eq, IfSome, int_le, int_eq, option_or, Command, Blank, Get, At, Len, Entries, command_of, command_of_words, range_of, insert_of, words_of, written_number, is_word, filled_content, painted_content, Content, content_after_command, HasWords}
 use Rattle.range_map_cli.specs.Commands.{Paint, Fill, Insert, Remove}
 
 abbrev IsGood : Command → Type 0
@@ -53,14 +53,14 @@ line_good : (line : List ℕ) → IfGood (command_of line)
 line_good [] = tt
 line_good (b ∷ bs) = words_good (words_of (b ∷ bs))
 
-painted_good : (lo hi : ℤ) (word : List ℕ) (content : Content) → is_word word ≡ true → HasWords content → HasWords (painted lo hi word content)
+painted_good : (lo hi : ℤ) (word : List ℕ) (content : Content) → is_word word ≡ true → HasWords content → HasWords (painted_content lo hi word content)
 painted_good lo hi word content good words = λ key. place (int_le lo key && int_le key hi) (content key) (words key)
   where
     place : (t : Bool) (old : Option (List ℕ)) → IfSome old (λ w. is_word w ≡ true) → IfSome (cond t (Some word) old) (λ w. is_word w ≡ true)
     place true old h = good
     place false old h = h
 
-filled_good : (lo hi : ℤ) (word : List ℕ) (content : Content) → is_word word ≡ true → HasWords content → HasWords (filled lo hi word content)
+filled_good : (lo hi : ℤ) (word : List ℕ) (content : Content) → is_word word ≡ true → HasWords content → HasWords (filled_content lo hi word content)
 filled_good lo hi word content good words = λ key. place (int_le lo key && int_le key hi) (content key) (words key)
   where
     place : (t : Bool) (old : Option (List ℕ)) → IfSome old (λ w. is_word w ≡ true) → IfSome (option_or old (cond t (Some word) None)) (λ w. is_word w ≡ true)

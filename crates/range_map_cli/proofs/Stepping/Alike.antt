@@ -1,5 +1,5 @@
 -- What steps make of contents that are alike at each key.
-use Rattle.range_map_cli.proofs.Words.{option_xor, ◌≡◌, ℤ, Bool, true, false, not, eqb, cond, List, [], ◌∷◌, ◌++◌, Option, Some, None, refl, ◌∙◌, ap, subst, int_le, int_lt, ◌&&◌, int_eq, IsEquivalence, same_itself, same_trans, same_or_left, is_some_alike, at, SameOption, right_first, left_with_right, left_alone, absent, mapped_keys, filled, painted, content_after, after_all, answer, answers, first_mapped_key, last_mapped_key, pair_of, key_with_value, without_key, SameAnswer, SameAnswers, SamePair, Step, Paint, Fill, Insert, Remove, PopFirst, PopLast, Clear, KeepBelow, KeepFrom, Or, And, Minus, Xor, AndSet, MinusSet, ComplementWith, Answer, Wrote, Old, Popped, Done}
+use Rattle.range_map_cli.proofs.Words.{option_xor, ◌≡◌, ℤ, Bool, true, false, not, eqb, cond, List, [], ◌∷◌, ◌++◌, Option, Some, None, refl, ◌∙◌, ap, subst, int_le, int_lt, ◌&&◌, int_eq, IsEquivalence, same_itself, same_trans, same_or_left, is_some_alike, at, SameOption, right_first, left_with_right, left_alone, value_if_none, mapped_keys, filled_content, painted_content, content_after, after_all, answer, answers, first_mapped_key, last_mapped_key, pair_of, key_with_value, without_key, SameAnswer, SameAnswers, SamePair, Step, Paint, Fill, Insert, Remove, PopFirst, PopLast, Clear, KeepBelow, KeepFrom, Or, And, Minus, Xor, AndSet, MinusSet, ComplementWith, Answer, Wrote, Old, Popped, Done}
 use Rattle.range_map_cli.proofs.Stepping.EndKeys.{first_alike, last_alike, mapped_alike}
 
 module _ {V : Type 0} (eq : V → V → Bool) (laws : IsEquivalence eq) where
@@ -33,7 +33,7 @@ module _ {V : Type 0} (eq : V → V → Bool) (laws : IsEquivalence eq) where
   same_alone a b None s = s
   same_alone a b (Some y) s = tt
 
-  same_absent : (v : V) (a b : Option V) → SameOption eq a b → SameOption eq (absent v a) (absent v b)
+  same_absent : (v : V) (a b : Option V) → SameOption eq a b → SameOption eq (value_if_none v a) (value_if_none v b)
   same_absent v None None s = laws.refl v
   same_absent v None (Some b) s = absurd s
   same_absent v (Some a) None s = absurd s
@@ -84,12 +84,12 @@ module _ {V : Type 0} (eq : V → V → Bool) (laws : IsEquivalence eq) where
     after_alike (Xor other) k = same_exactly_one (c k) (d k) (at other.entries k) (same k)
     after_alike (AndSet keys) k = same_with_right (c k) (d k) (at keys k) (same k)
     after_alike (MinusSet keys) k = same_alone (c k) (d k) (at keys k) (same k)
-    after_alike (ComplementWith v) k = same_cond (int_le low k && int_le k high) (absent v (c k)) None (absent v (d k)) None (same_absent v (c k) (d k) (same k)) tt
+    after_alike (ComplementWith v) k = same_cond (int_le low k && int_le k high) (value_if_none v (c k)) None (value_if_none v (d k)) None (same_absent v (c k) (d k) (same k)) tt
 
     -- the answer
     pub answer_alike : (s : Step T V L) → SameAnswer (λ (j : ℤ). j) eq (answer rank low high s c) (answer rank low high s d)
-    answer_alike (Paint lo hi v) = changed_alike low high c d (painted (rank lo) (rank hi) v c) (painted (rank lo) (rank hi) v d) same (after_alike (Paint lo hi v))
-    answer_alike (Fill lo hi v) = changed_alike low high c d (filled (rank lo) (rank hi) v c) (filled (rank lo) (rank hi) v d) same (after_alike (Fill lo hi v))
+    answer_alike (Paint lo hi v) = changed_alike low high c d (painted_content (rank lo) (rank hi) v c) (painted_content (rank lo) (rank hi) v d) same (after_alike (Paint lo hi v))
+    answer_alike (Fill lo hi v) = changed_alike low high c d (filled_content (rank lo) (rank hi) v c) (filled_content (rank lo) (rank hi) v d) same (after_alike (Fill lo hi v))
     answer_alike (Insert j v) = same (rank j)
     answer_alike (Remove j) = same (rank j)
     answer_alike PopFirst = subst (λ o. SamePair (λ (j : ℤ). j) eq (key_with_value c (first_mapped_key low high c)) (key_with_value d o)) (first_same low high c d same) (same_pairs (first_mapped_key low high c) c d same)

@@ -1,5 +1,5 @@
 -- What paints and fills in any order leave.
-use Rattle.range_map_cli.proofs.Words.{option_or, ◌≡◌, ◌+◌, ◌-◌, ◌*◌, ◌≤◌, ℤ, Bool, cond, List, [], ◌∷◌, length, Option, Some, None, ◌∙◌, sym, ap, subst, arith, All, IsEquivalence, All-head, All-tail, or_assoc, or_none, keyed_count, Entry, entry, at, holds, SameOption, filled, last_at, painted, painted_in_order, canonical, painted_one, few_painted, fills_of, painted_and_filled, paints_of, ranges_in, IsPaintOrFill, PaintsAloneAreInOrder, StepsPaintAndFill, IsSteppedAll, Step, Paint, Fill, Insert, Remove, PopFirst, PopLast, Clear, KeepBelow, KeepFrom, Or, And, Minus, Xor, AndSet, MinusSet, ComplementWith}
+use Rattle.range_map_cli.proofs.Words.{option_or, ◌≡◌, ◌+◌, ◌-◌, ◌*◌, ◌≤◌, ℤ, Bool, cond, List, [], ◌∷◌, length, Option, Some, None, ◌∙◌, sym, ap, subst, arith, All, IsEquivalence, All-head, All-tail, or_assoc, or_none, keyed_count, Entry, entry, at, holds, SameOption, filled_content, last_at, painted_content, painted_in_order, canonical, painted_one, few_painted, fills_of, painted_and_filled, paints_of, ranges_in, IsPaintOrFill, PaintsAloneAreInOrder, StepsPaintAndFill, IsSteppedAll, Step, Paint, Fill, Insert, Remove, PopFirst, PopLast, Clear, KeepBelow, KeepFrom, Or, And, Minus, Xor, AndSet, MinusSet, ComplementWith}
 
 module _ {V : Type 0} where
   -- one entry is painted first
@@ -21,10 +21,10 @@ module _ {T V L : Type 0} (rank : T → ℤ) (low high : ℤ) where
   pub steps_paint_and_fill : StepsPaintAndFill V L rank low high
   steps_paint_and_fill [] content all k = sym (or_none (content k))
   steps_paint_and_fill (Paint lo hi v ∷ steps) content all k =
-      steps_paint_and_fill steps (painted (rank lo) (rank hi) v content) (All-tail IsPaintOrFill (Paint lo hi v) steps all) k
+      steps_paint_and_fill steps (painted_content (rank lo) (rank hi) v content) (All-tail IsPaintOrFill (Paint lo hi v) steps all) k
       ∙ paint_first (holds (entry (rank lo) (rank hi) v) k) v (last_at (paints_of rank steps) k) (content k) (at (fills_of rank steps) k)
   steps_paint_and_fill (Fill lo hi v ∷ steps) content all k =
-      steps_paint_and_fill steps (filled (rank lo) (rank hi) v content) (All-tail IsPaintOrFill (Fill lo hi v) steps all) k
+      steps_paint_and_fill steps (filled_content (rank lo) (rank hi) v content) (All-tail IsPaintOrFill (Fill lo hi v) steps all) k
       ∙ fill_first (holds (entry (rank lo) (rank hi) v) k) v (last_at (paints_of rank steps) k) (content k) (at (fills_of rank steps) k)
   steps_paint_and_fill (Insert j v ∷ steps) content all k = absurd (All-head IsPaintOrFill (Insert j v) steps all)
   steps_paint_and_fill (Remove j ∷ steps) content all k = absurd (All-head IsPaintOrFill (Remove j) steps all)

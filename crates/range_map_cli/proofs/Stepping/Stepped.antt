@@ -1,5 +1,5 @@
 -- What a step does, from what the call that takes it does.
-use Rattle.range_map_cli.proofs.Words.{◌≡◌, ◌↔◌, ◌≤◌, ℕ, ℤ, pos, ◌≤ℤ◌, Bool, true, false, not, eqb, cond, IsTrue, List, [], length, Option, Some, None, MatchOption, refl, ◌∙◌, sym, ap, subst, arith, ⊎_elim, int_le, ◌&&◌, IsEquivalence, eq-eqb, ne_eqb, cases_eq, ints, pos_injective, same_itself, is_some_alike, Entry, entry, at, SameOption, CountedEntries, IsRangeMap, absent, IsComplement, keys_in, mapped_keys, IsFilled, IsPainted, IsCountedCut, PutsAtMost, PopsFirst, PopsLast, answer, complemented, first_mapped_key, last_mapped_key, key_with_value, pair_of, IsStepped, IsWithout, SameAnswer, SamePair, Step, Answer}
+use Rattle.range_map_cli.proofs.Words.{◌≡◌, ◌↔◌, ◌≤◌, ℕ, ℤ, pos, ◌≤ℤ◌, Bool, true, false, not, eqb, cond, IsTrue, List, [], length, Option, Some, None, MatchOption, refl, ◌∙◌, sym, ap, subst, arith, ⊎_elim, int_le, ◌&&◌, IsEquivalence, eq-eqb, ne_eqb, cases_eq, ints, pos_injective, same_itself, is_some_alike, Entry, entry, at, SameOption, CountedEntries, IsRangeMap, value_if_none, IsComplement, keys_in, mapped_keys, IsFilled, IsPainted, IsCountedCut, PutsAtMost, PopsFirst, PopsLast, answer, complemented, first_mapped_key, last_mapped_key, key_with_value, pair_of, IsStepped, IsWithout, SameAnswer, SamePair, Step, Answer}
 use Rattle.range_map_cli.proofs.Stepping.EndKeys.{at_key, first_key_is, first_none, last_key_is, last_none, mapped_alike}
 
 module _ {T V L : Type 0} (eq : V → V → Bool) (rank : T → ℤ) (low high : ℤ) where
@@ -63,7 +63,7 @@ module _ {V : Type 0} (eq : V → V → Bool) (low high : ℤ) where
       off None p out = tt
       off (Some v) p out = absurd (out (at_key low high new k v c.range_map.keys p))
 
-      by_tests : (a b : Bool) → int_le low k ≡ a → int_le k high ≡ b → SameOption eq (at new k) (cond (a && b) (absent v (at old k)) None)
+      by_tests : (a b : Bool) → int_le low k ≡ a → int_le k high ≡ b → SameOption eq (at new k) (cond (a && b) (value_if_none v (at old k)) None)
       by_tests true true p q = c.content k (omega (arith, ints, p)) (omega (arith, ints, q))
       by_tests true false p q = off (at new k) refl (λ l. omega (arith, ints, q, l.1))
       by_tests false b p q = off (at new k) refl (λ l. omega (arith, ints, p, l.0))

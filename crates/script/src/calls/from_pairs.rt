@@ -44,8 +44,8 @@ impl<T: ScriptKey> FromPairs<T> {
         match self {
             FromPairs::Points(Form::Owned, pairs) => Ok(Map::from_points(alloc, pairs)?),
             FromPairs::Ranges(Form::Owned, pairs) => Ok(Map::from_ranges(alloc, pairs)?),
-            FromPairs::Points(form, pairs) => Ok(of_lent_points(alloc, form, &pairs)?),
-            FromPairs::Ranges(form, pairs) => Ok(of_lent_ranges(alloc, form, &pairs)?),
+            FromPairs::Points(form, pairs) => Ok(of_borrowed_points(alloc, form, &pairs)?),
+            FromPairs::Ranges(form, pairs) => Ok(of_borrowed_ranges(alloc, form, &pairs)?),
             FromPairs::Array(pairs) => of_three(alloc, pairs),
         }
     }
@@ -109,7 +109,7 @@ fn of_ref_ranges<'a, T: ScriptKey>(
 }
 
 /// The map of pairs of a key and a value, of which at least the values are borrowed.
-fn of_lent_points<T: ScriptKey>(
+fn of_borrowed_points<T: ScriptKey>(
     alloc: Global,
     form: Form,
     pairs: &Vec<(T, String)>,
@@ -117,18 +117,18 @@ fn of_lent_points<T: ScriptKey>(
     if let Form::Ref = form {
         return Map::from_ref_points(alloc, pairs);
     }
-    let mut lent = Vec::new(alloc);
+    let mut borrowed = Vec::new(alloc);
     for (key, value) in pairs {
-        lent.push((*key, value))?;
+        borrowed.push((*key, value))?;
     }
     match form {
-        Form::RefRefValue => of_ref_points(alloc, lent.as_slice()),
-        _ => Map::from_points_ref_value(alloc, lent),
+        Form::RefRefValue => of_ref_points(alloc, borrowed.as_slice()),
+        _ => Map::from_points_ref_value(alloc, borrowed),
     }
 }
 
 /// The map of pairs of a range and a value, of which at least the values are borrowed.
-fn of_lent_ranges<T: ScriptKey>(
+fn of_borrowed_ranges<T: ScriptKey>(
     alloc: Global,
     form: Form,
     pairs: &Vec<(RangeInclusive<T>, String)>,
@@ -136,12 +136,12 @@ fn of_lent_ranges<T: ScriptKey>(
     if let Form::Ref = form {
         return Map::from_ref_ranges(alloc, pairs);
     }
-    let mut lent = Vec::new(alloc);
+    let mut borrowed = Vec::new(alloc);
     for (range, value) in pairs {
-        lent.push((*range.start()..=*range.end(), value))?;
+        borrowed.push((*range.start()..=*range.end(), value))?;
     }
     match form {
-        Form::RefRefValue => of_ref_ranges(alloc, lent.as_slice()),
-        _ => Map::from_ranges_ref_value(alloc, lent),
+        Form::RefRefValue => of_ref_ranges(alloc, borrowed.as_slice()),
+        _ => Map::from_ranges_ref_value(alloc, borrowed),
     }
 }

@@ -37,7 +37,7 @@ fn steps(alloc: Global, word: &str) -> Result<Vec<Step>, Fault> {
 /// An iterator of a map.
 #[derive(Drop)]
 enum Kind<T: ScriptKey> {
-    Lent(Over),
+    Borrowed(Over),
     Taking(Over),
     Range((Bound<T>, Bound<T>)),
     Overlapping((Bound<T>, Bound<T>)),
@@ -60,7 +60,7 @@ impl<T: ScriptKey> Kind<T> {
         match words {
             [call] => match call.strip_prefix("into_") {
                 Some(call) => Ok(Kind::Taking(Over::read(call)?)),
-                None => Ok(Kind::Lent(Over::read(call)?)),
+                None => Ok(Kind::Borrowed(Over::read(call)?)),
             },
             ["range", range] => Ok(Kind::Range(bounds(range)?)),
             ["overlapping", range] => Ok(Kind::Overlapping(bounds(range)?)),
@@ -84,7 +84,7 @@ impl Over {
     }
 
     /// Makes calls of an iterator over a borrowed map.
-    fn walk_lent<T: ScriptKey>(
+    fn walk_borrowed<T: ScriptKey>(
         self,
         map: &Map<T>,
         steps: &[Step],
@@ -143,7 +143,7 @@ impl<T: ScriptKey> Iterate<T> {
     ) -> Result<(), Fault> {
         let steps = self.steps.as_slice();
         match self.kind {
-            Kind::Lent(over) => Ok(over.walk_lent(state.map(name), steps, reply)?),
+            Kind::Borrowed(over) => Ok(over.walk_borrowed(state.map(name), steps, reply)?),
             Kind::Taking(over) => Ok(over.walk_taking(state.take_map(name), steps, reply)?),
             Kind::Range(range) => walk_range(state.map(name), range, steps, reply),
             Kind::Overlapping(range) => Ok(walk(state.map(name).overlapping(range), steps, reply)?),
@@ -191,7 +191,7 @@ fn walk<X: Debug + Drop, I: DoubleEndedIterator<Item = X> + Drop>(
 
 /// Makes calls of an iterator whose items borrow the map.
 fn walk_values<'a, T: ScriptKey, I: DoubleEndedIterator<Item = &'a String> + Drop>(
-    _lent: &'a Map<T>,
+    _borrowed: &'a Map<T>,
     iter: I,
     steps: &[Step],
     reply: &mut String,

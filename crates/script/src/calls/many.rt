@@ -44,10 +44,10 @@ impl Many {
 
     /// Makes the call. An intersection of no maps is an error of the script.
     pub fn make<T: ScriptKey>(self, state: &State<T>) -> Result<Map<T>, Fault> {
-        let lent = lent_maps(state, &self.maps)?;
+        let borrowed = borrowed_maps(state, &self.maps)?;
         match self.kind {
-            Kind::Intersection => intersection(state.alloc, lent),
-            kind => Ok(combined(state.alloc, kind, lent)?),
+            Kind::Intersection => intersection(state.alloc, borrowed),
+            kind => Ok(combined(state.alloc, kind, borrowed)?),
         }
     }
 }
@@ -84,15 +84,15 @@ fn map_names(alloc: Global, words: &[&str]) -> Result<Vec<MapName>, Fault> {
 }
 
 /// The maps of the names, borrowed.
-fn lent_maps<'a, T: ScriptKey>(
+fn borrowed_maps<'a, T: ScriptKey>(
     state: &'a State<T>,
     names: &[MapName],
 ) -> Result<Vec<&'a Map<T>>, AllocError> {
-    let mut lent = Vec::new(state.alloc);
+    let mut borrowed = Vec::new(state.alloc);
     for name in names {
-        lent.push(state.map(*name))?;
+        borrowed.push(state.map(*name))?;
     }
-    Ok(lent)
+    Ok(borrowed)
 }
 
 /// Appends a word to others, after a `+`, or replaces `none` by it.

@@ -9,27 +9,27 @@ use std::alloc::AllocError;
 #[derive(Clone, Copy)]
 struct Operand<N> {
     name: N,
-    is_lent: bool,
+    is_borrowed: bool,
 }
 
 impl Operand<MapName> {
     fn read(word: &str) -> Result<Self, Fault> {
-        let (is_lent, name) = lent(word);
+        let (is_borrowed, name) = split_ampersand(word);
         let name = MapName::read(name)?;
-        Ok(Operand { name, is_lent })
+        Ok(Operand { name, is_borrowed })
     }
 }
 
 impl Operand<SetName> {
     fn read_set(word: &str) -> Result<Self, Fault> {
-        let (is_lent, name) = lent(word);
+        let (is_borrowed, name) = split_ampersand(word);
         let name = SetName::read(name)?;
-        Ok(Operand { name, is_lent })
+        Ok(Operand { name, is_borrowed })
     }
 }
 
 /// Whether a word begins with `&`, and what it names.
-fn lent(word: &str) -> (bool, &str) {
+fn split_ampersand(word: &str) -> (bool, &str) {
     match word.strip_prefix('&') {
         Some(name) => (true, name),
         None => (false, word),
@@ -39,7 +39,7 @@ fn lent(word: &str) -> (bool, &str) {
 /// An operand, owned or borrowed.
 enum Given<'a, M> {
     Owned(M),
-    Lent(&'a M),
+    Borrowed(&'a M),
 }
 
 /// Applies an operator to two operands, each owned or borrowed.
@@ -47,9 +47,9 @@ macro_rules! apply {
     ($left:ident, $operator:tt, $right:ident) => {
         match ($left, $right) {
             (Given::Owned(left), Given::Owned(right)) => left $operator right,
-            (Given::Owned(left), Given::Lent(right)) => left $operator right,
-            (Given::Lent(left), Given::Owned(right)) => left $operator right,
-            (Given::Lent(left), Given::Lent(right)) => left $operator right,
+            (Given::Owned(left), Given::Borrowed(right)) => left $operator right,
+            (Given::Borrowed(left), Given::Owned(right)) => left $operator right,
+            (Given::Borrowed(left), Given::Borrowed(right)) => left $operator right,
         }
     };
 }
@@ -145,7 +145,7 @@ impl Operation {
             Err(_) => Right::Map(Operand::<MapName>::read(right)?),
         };
         let is_good = match right {
-            Right::Map(right) => left.name != right.name || left.is_lent && right.is_lent,
+            Right::Map(right) => left.name != right.name || left.is_borrowed && right.is_borrowed,
             Right::Set(_) => matches!(operator, Operator::And | Operator::Minus),
         };
         if !is_good {
@@ -164,14 +164,14 @@ impl Operation {
         match self.right {
             Right::Map(right) => {
                 let owned_right = owned(state, right);
-                let left = by_value_or_lent(owned_left, state.map(self.left.name));
-                let right = by_value_or_lent(owned_right, state.map(right.name));
+                let left = owned_or_borrowed(owned_left, state.map(self.left.name));
+                let right = owned_or_borrowed(owned_right, state.map(right.name));
                 with_map(left, self.operator, right)
             }
             Right::Set(right) => {
                 let owned_right = owned_set(state, right);
-                let left = by_value_or_lent(owned_left, state.map(self.left.name));
-                let right = by_value_or_lent(owned_right, state.set(right.name));
+                let left = owned_or_borrowed(owned_left, state.map(self.left.name));
+                let right = owned_or_borrowed(owned_right, state.set(right.name));
                 with_set(left, self.operator, right)
             }
         }
@@ -206,7 +206,7 @@ fn with_set<T: ScriptKey>(
 
 /// The map of an owned operand.
 fn owned<T: ScriptKey>(state: &mut State<T>, operand: Operand<MapName>) -> Option<Map<T>> {
-    if operand.is_lent {
+    if operand.is_borrowed {
         None
     } else {
         Some(state.take_map(operand.name))
@@ -218,7 +218,7 @@ fn owned_set<T: ScriptKey>(
     state: &mut State<T>,
     operand: Operand<SetName>,
 ) -> Option<RangeSetBlaze<T>> {
-    if operand.is_lent {
+    if operand.is_borrowed {
         None
     } else {
         Some(state.take_set(operand.name))
@@ -226,10 +226,10 @@ fn owned_set<T: ScriptKey>(
 }
 
 /// The owned operand if there is one, and otherwise the borrowed one.
-fn by_value_or_lent<M>(owned: Option<M>, lent: &M) -> Given<'_, M> {
+fn owned_or_borrowed<M>(owned: Option<M>, borrowed: &M) -> Given<'_, M> {
     match owned {
         Some(map) => Given::Owned(map),
-        None => Given::Lent(lent),
+        None => Given::Borrowed(borrowed),
     }
 }
 
@@ -253,9 +253,9 @@ impl Complement {
     /// Makes the call. An owned map is empty afterwards.
     pub fn make<T: ScriptKey>(self, state: &mut State<T>) -> Result<RangeSetBlaze<T>, AllocError> {
         let owned = owned(state, self.map);
-        match by_value_or_lent(owned, state.map(self.map.name)) {
+        match owned_or_borrowed(owned, state.map(self.map.name)) {
             Given::Owned(map) => !map,
-            Given::Lent(map) => !map,
+            Given::Borrowed(map) => !map,
         }
     }
 }

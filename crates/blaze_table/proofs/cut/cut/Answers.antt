@@ -18,12 +18,12 @@ returns-in_err-found-clause-refused g c =
     let h = has_key g.V.PartialEq.eq g.met.V.Eq.laws k g.T.Integer.low g.T.Integer.high es c.in_hand.ensures c.requires.table.canonical _ c.in_err-found.ensures.refused in
     if_err c.from_residual.result (among_others g.V.PartialEq.eq g.met.V.Eq.laws k g.T.Integer.low g.T.Integer.high es c.in_hand.ensures c.requires.table.canonical h.of h.last h.up h.holds)
 
-pub cut_held-requires-clause-held : goal.cut_held-requires-clause-held
-cut_held-requires-clause-held g c =
+pub cut_counted_key-requires-clause-held : goal.cut_counted_key-requires-clause-held
+cut_counted_key-requires-clause-held g c =
     let rank = g.T.Integer.rank in
     let k = rank c.args.key in
     let es = c.args.entries.now.entries in
-    subst (λ xs. IsRangeCloned rank g.V.Clone.is_clone (holder_of k xs) (Some c.in-Some.held)) (sym (ap (λ (s : CountedEntries g.row.V.Denot). s.entries) c.entry_containing.ensures.looked))
+    subst (λ xs. IsRangeCloned rank g.V.Clone.is_clone (holder_of k xs) (Some c.in-Some.entry)) (sym (ap (λ (s : CountedEntries g.row.V.Denot). s.entries) c.entry_containing.ensures.looked))
     (subst (IsRangeCloned rank g.V.Clone.is_clone (holder_of k es)) c.in-Some.is c.in_ok-found.ensures.held)
 
 pub returns-in-None-clause-cut : goal.returns-in-None-clause-cut
@@ -48,6 +48,6 @@ returns-in_err-value-in-Some-clause-none g c = λ n.
 
 pub returns-in_ok-value-in-Some-clause-cut : goal.returns-in_ok-value-in-Some-clause-cut
 returns-in_ok-value-in-Some-clause-cut g c =
-    let number = g.T.SafeLen.SafeLength.number c.in_ok-value-in-Some.rest in
-    subst (λ (s : CountedEntries g.row.V.Denot). IsKeyCut g.V.PartialEq.eq g.T.Integer.low g.T.Integer.high number (g.T.Integer.rank c.args.key) (Some c.in_ok-value-in-Some.value) s.entries c.cut_held.new.entries.entries)
+    let number = g.T.SafeLen.SafeLength.number c.in_ok-value-in-Some.new_len in
+    subst (λ (s : CountedEntries g.row.V.Denot). IsKeyCut g.V.PartialEq.eq g.T.Integer.low g.T.Integer.high number (g.T.Integer.rank c.args.key) (Some c.in_ok-value-in-Some.value) s.entries c.cut_counted_key.new.entries.entries)
     c.entry_containing.ensures.looked c.in_ok-value-in-Some.ensures.cut

@@ -13,8 +13,8 @@ returns-in_err-value-in-Some-clause-refused g c =
     if_err c.from_residual-in_err-value-in-Some.result (first_among g.V.PartialEq.eq g.met.V.Eq.laws g.T.Integer.low g.T.Integer.high c.args.entries.now.entries c.in_hand.ensures c.requires.table.canonical
     (subst (λ (s : CountedEntries g.row.V.Denot). IsSomeAnd (slice_get s.entries 0) (λ e. e.lo <ℤ e.hi)) c.first_range_cloned.ensures.looked c.in_err-value-in-Some.ensures.refused))
 
-pub minus-rest-requires : goal.minus-rest-requires
-minus-rest-requires g c = record {
+pub minus-new_len-requires : goal.minus-new_len-requires
+minus-new_len-requires g c = record {
   enough =
       let rank = g.T.Integer.rank in
       let eq = g.V.PartialEq.eq in
@@ -22,7 +22,7 @@ minus-rest-requires g c = record {
       let high = g.T.Integer.high in
       let es = c.args.entries.now.entries in
       let canonical = c.requires.table.canonical in
-      let h = first_has eq g.met.V.Eq.laws low high es c.in_hand.ensures canonical rank g.V.Clone.is_clone c.in-Some.held (subst (IsRangeCloned rank g.V.Clone.is_clone (slice_get es 0)) c.in-Some.is c.in_ok-first.ensures.held) in
+      let h = first_has eq g.met.V.Eq.laws low high es c.in_hand.ensures canonical rank g.V.Clone.is_clone c.in-Some.entry (subst (IsRangeCloned rank g.V.Clone.is_clone (slice_get es 0)) c.in-Some.is c.in_ok-first.ensures.held) in
       omega (arith, ints, key_fits eq g.met.V.Eq.laws _ low high es c.in_hand.ensures canonical h _ c.requires.table, c.one.ensures);
 }
 
@@ -36,8 +36,8 @@ returns-clause-cut g c =
     let canonical = c.requires.table.canonical in
     let looked = subst (IsRangeCloned rank g.V.Clone.is_clone (slice_get es 0)) c.in-Some.is c.in_ok-first.ensures.held in
     record {
-      first = first_key rank g.V.Clone.is_clone c.in-Some.held es looked;
-      cut = key_cut eq g.met.V.Eq.laws _ low high es c.in_hand.ensures canonical (first_has eq g.met.V.Eq.laws low high es c.in_hand.ensures canonical rank g.V.Clone.is_clone c.in-Some.held looked) _ _ _ _ c.requires.table
-          (omega (arith, ints, c.minus-rest.ensures.difference, c.one.ensures))
-          (subst (λ (s : CountedEntries g.row.V.Denot). IsKeyTaken eq (rank c.in-Some.held.start) (Some c.in_ok-value-in-Some.value) s.entries c.cut_front.new.entries.entries) c.first_range_cloned.ensures.looked c.in_ok-value-in-Some.ensures.cut);
+      first = first_key rank g.V.Clone.is_clone c.in-Some.entry es looked;
+      cut = key_cut eq g.met.V.Eq.laws _ low high es c.in_hand.ensures canonical (first_has eq g.met.V.Eq.laws low high es c.in_hand.ensures canonical rank g.V.Clone.is_clone c.in-Some.entry looked) _ _ _ _ c.requires.table
+          (omega (arith, ints, c.minus-new_len.ensures.difference, c.one.ensures))
+          (subst (λ (s : CountedEntries g.row.V.Denot). IsKeyTaken eq (rank c.in-Some.entry.start) (Some c.in_ok-value-in-Some.value) s.entries c.cut_front.new.entries.entries) c.first_range_cloned.ensures.looked c.in_ok-value-in-Some.ensures.cut);
     }

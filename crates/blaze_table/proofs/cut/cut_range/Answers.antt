@@ -21,7 +21,7 @@ returns-in_err-found-clause-refused g c =
 pub remove_keys-requires-clause-place : goal.remove_keys-requires-clause-place
 remove_keys-requires-clause-place g c =
     let same = ap (λ (s : CountedEntries g.row.V.Denot). s.entries) c.walk.ensures.looked.alone in
-    subst (λ xs. IsEditPlan g.T.Integer.rank g.V.PartialEq.eq (g.T.Integer.rank c.args.lo) xs c.in_ok-found.found.plan c.in_ok-found.found.above) (sym same)
+    subst (λ xs. IsEditPlan g.T.Integer.rank g.V.PartialEq.eq (g.T.Integer.rank c.args.lo) xs c.in_ok-found.found.plan c.in_ok-found.found.tail_value) (sym same)
     (range_place g.V.PartialEq.eq _ c.as_ref.ensures.value _ _ g.T.Integer.rank c.in_ok-found.found.plan _ _ c.args.entries.now.entries (walked g.V.PartialEq.eq _ _ g.T.Integer.low g.T.Integer.high c.requires.order _ _ c.in_hand.ensures c.requires.table _ c.requires.clones c.in_ok-found.ensures.found) g.T.Integer.low g.T.Integer.high c.requires.order c.in_hand.ensures c.requires.table.canonical)
 
 pub returns-in_err-remove_keys-clause-refused : goal.returns-in_err-remove_keys-clause-refused

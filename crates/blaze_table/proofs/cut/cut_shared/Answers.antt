@@ -47,7 +47,7 @@ returns-clause-cut g c =
     let rank = g.T.Integer.rank in
     inside_taken g.V.PartialEq.eq g.met.V.Eq.laws (rank c.args.key) g.T.Integer.low g.T.Integer.high c.args.entries.now.entries c.in_hand.ensures c.requires.canonical g.V.Clone.is_clone c.requires.clones (rank c.args.start) (rank c.args.end) c.args.value c.requires.held
     (lt_holds (rank c.args.key) (rank c.args.end) (sym c.is_below.ensures ∙ c.if-not-is_below.false)) _ c.add_one-next.ensures
-    (lt_holds (rank c.args.start) (rank c.args.key) (sym c.is_below-2.ensures ∙ c.if-not-is_below-2.false)) c.in_ok-above.above c.in_ok-above.ensures.cases _ c.sub_one-2.ensures
+    (lt_holds (rank c.args.start) (rank c.args.key) (sym c.is_below-2.ensures ∙ c.if-not-is_below-2.false)) c.in_ok-tail_value.tail_value c.in_ok-tail_value.ensures.cases _ c.sub_one-2.ensures
     c.insert.new.self.entries c.set_end-2.new.self.entries (ap (λ (s : CountedEntries g.row.V.Denot). s.entries) c.in_ok-insert.ensures.ok) (ap (λ (s : CountedEntries g.row.V.Denot). s.entries) c.set_end-2.ensures)
 
 pub returns-clause-worked : goal.returns-clause-worked

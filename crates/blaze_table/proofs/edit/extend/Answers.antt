@@ -11,8 +11,8 @@ split_tail-requires-clause-room g c =
     let rank = g.T.Integer.rank in
     has_room g.V.PartialEq.eq g.met.V.Eq.laws (rank c.args.plan.end) c.args.entries.now.entries (option_map (shown_ends rank) c.args.plan.tail) c.requires.place.tail
 
-pub split_tail-requires-clause-above : goal.split_tail-requires-clause-above
-split_tail-requires-clause-above g c =
+pub split_tail-requires-clause-tail_value : goal.split_tail-requires-clause-tail_value
+split_tail-requires-clause-tail_value g c =
     let rank = g.T.Integer.rank in
     above_there g.V.PartialEq.eq g.met.V.Eq.laws rank (rank c.args.lo) c.args.entries.now.entries c.args.plan None c.requires.canonical c.requires.place
 
@@ -23,8 +23,8 @@ clear-requires-clause-here g c =
     let es = c.args.entries.now.entries in
     let p = c.requires.place in
     c.is_removed-is_first_removed.ensures
-    ∙ rest_start lo lo (rank c.args.plan.end) g.T.Integer.low g.T.Integer.high c.args.plan.first (option_map (shown_ends rank) c.args.plan.tail) None es c.split_tail.new.entries.entries (omega (arith, ints)) p.order c.in_hand.ensures
-    (both_some (shown_ends rank) range_in c.args.plan.first (start_at lo es) p.first) c.in_ok-split_tail.ensures.put
+    ∙ rest_start lo lo (rank c.args.plan.end) g.T.Integer.low g.T.Integer.high c.args.plan.at_start (option_map (shown_ends rank) c.args.plan.tail) None es c.split_tail.new.entries.entries (omega (arith, ints)) p.order c.in_hand.ensures
+    (both_some (shown_ends rank) range_in c.args.plan.at_start (start_at lo es) p.at_start) c.in_ok-split_tail.ensures.put
 
 pub clear-requires-clause-above : goal.clear-requires-clause-above
 clear-requires-clause-above g c =

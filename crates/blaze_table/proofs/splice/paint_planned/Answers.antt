@@ -87,8 +87,8 @@ set_entry-requires-clause-place g c =
     let hi = rank c.args.hi in
     let es = c.args.entries.now.entries in
     let up = end_up eq test hi es c.requires.table.canonical (rank c.args.walk.plan.end) c.requires.walk.plan.end in
-    place_is eq test lo hi c.requires.order g.T.Integer.low g.T.Integer.high es c.in_hand.ensures c.requires.table.canonical rank c.args.walk.plan c.args.walk.above c.requires.walk.plan
-    (like_above eq test lo hi (rank c.args.walk.plan.end) c.requires.order up c.args.walk.above es c.requires.walk.above (c.in-None.ensures ∙ ap (joined_start lo) c.requires.walk.plan.predecessor))
+    place_is eq test lo hi c.requires.order g.T.Integer.low g.T.Integer.high es c.in_hand.ensures c.requires.table.canonical rank c.args.walk.plan c.args.walk.tail_value c.requires.walk.plan
+    (like_above eq test lo hi (rank c.args.walk.plan.end) c.requires.order up c.args.walk.tail_value es c.requires.walk.tail_value (c.in-None.ensures ∙ ap (joined_start lo) c.requires.walk.plan.predecessor))
 
 pub returns-in_ok-extend-in-Some-clause-painted : goal.returns-in_ok-extend-in-Some-clause-painted
 returns-in_ok-extend-in-Some-clause-painted g c =

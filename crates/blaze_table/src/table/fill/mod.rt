@@ -8,14 +8,14 @@ ghost use Rattle.blaze_table.specs.Painted.{ClonesAreAlike};
 ghost use Rattle.blaze_table.specs.Work.{IsCounted};
 
 mod gap;
+mod inserts;
 mod join;
-mod put;
 
 use super::RangeTable;
 use blaze_int::{Integer, differ};
 use gap::first_gap;
+use inserts::{FillEdits, insert_all, take_back};
 use join::join_all;
-use put::{FillEdits, put_all, take_back};
 use std::alloc::AllocError;
 
 impl<T: Integer, V: Eq + Clone> RangeTable<T, V> {
@@ -45,7 +45,7 @@ impl<T: Integer, V: Eq + Clone> RangeTable<T, V> {
         };
         let old_len = self.len;
         let mut made = FillEdits::new(self.entries.allocator());
-        match put_all(&mut self.entries, &mut made, old_len, hi, first, value) {
+        match insert_all(&mut self.entries, &mut made, old_len, hi, first, value) {
             Ok(new_len) => {
                 join_all(&mut self.entries.counted, made.join_keys);
                 self.len = new_len;

@@ -1,5 +1,5 @@
 use Rattle.range_map_blaze.proofs.Words.{refl, Bor}
-use Rattle.range_map_blaze.proofs.LentValues.{cloned_more}
+use Rattle.range_map_blaze.proofs.BorrowedValues.{cloned_more}
 use Rattle.range_map_blaze.proofs.pairs.cloned.Goals as goal
 
 pub loop-start-preserved : goal.loop-start-preserved

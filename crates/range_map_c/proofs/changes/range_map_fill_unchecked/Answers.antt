@@ -12,4 +12,4 @@ returns-then-hi-lo-clause-ok c = rw c.in_hand.ensures.kept
     (filled_nowhere nat_eq nat_eq_equiv least_key greatest_key (entry c.args.lo c.args.hi c.args.value) c.args.map.now.entries (grind (arith, ints)) c.in_hand.ensures.range_map)
 
 pub returns-in-Ok-filled-clause-changed : goal.returns-in-Ok-filled-clause-changed
-returns-in-Ok-filled-clause-changed c = rw c.put.ensures (rw c.in-Ok.ensures.map (rw (sym c.deref_mut.ensures.value) c.in-Ok-filled.ensures.changed))
+returns-in-Ok-filled-clause-changed c = rw c.set_map.ensures (rw c.in-Ok.ensures.map (rw (sym c.deref_mut.ensures.value) c.in-Ok-filled.ensures.changed))

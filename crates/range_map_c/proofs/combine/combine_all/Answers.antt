@@ -14,6 +14,6 @@ pub returns-clause-ok : goal.returns-clause-ok
 returns-clause-ok c =
     let lo : to_z w64 (of_z w64 c.args.lo) ≡ c.args.lo = omega (arith, ints) in
     let hi : to_z w64 (of_z w64 c.args.hi) ≡ c.args.hi = omega (arith, ints) in
-    rw (sym c.in_hand.ensures.kept) (rw c.put.ensures (rw c.in-Ok.ensures.map (rw (sym c.deref_mut.ensures.value)
+    rw (sym c.in_hand.ensures.kept) (rw c.set_map.ensures (rw c.in-Ok.ensures.map (rw (sym c.deref_mut.ensures.value)
     (done_by least_key greatest_key c.args.lo c.args.hi (to_z w64 (of_z w64 c.args.lo)) (to_z w64 (of_z w64 c.args.hi)) lo hi (combined c.args.op 0 c.args.value) c.deref_mut.result.now.map.entries
     c.combine-outcome.new.map.entries c.combine-outcome.result c.status_of.result c.status_of.ensures c.combine-outcome.ensures.ok))))

@@ -5,14 +5,14 @@ use Rattle.range_map_cli.proofs.Sessions.Progress.{next_line}
 use Rattle.range_map_cli.proofs.Sessions.Endings.{one_more, prints_no_memory, prints_bad, closes_reply, behind}
 use Rattle.range_map_cli.proofs.session.answer_line.Goals as goal
 
-pub returns-in-Ok-put-clause-ok : goal.returns-in-Ok-put-clause-ok
-returns-in-Ok-put-clause-ok g c = λ held text rest lines at.
+pub returns-in-Ok-append_output-clause-ok : goal.returns-in-Ok-append_output-clause-ok
+returns-in-Ok-append_output-clause-ok g c = λ held text rest lines at.
     let line = c.args.line.now in
     let answer = c.in-Ok.ensures.ok in
     let session = with_line line c.args.session.now in
     let reply = string_bytes c.answer.new.self.reply in
     let behind_old : c.answer.new.self.waiting.items ++ c.as_bytes.result.now ≡ session.waiting.items ++ reply = ap (λ l. l ++ c.as_bytes.result.now) c.answer.ensures.waiting ∙ ap (λ l. session.waiting.items ++ l) c.as_bytes.ensures.value in
-    let put = subst (λ l. Forwards (g.W.Write.contents c.args.output.now) (g.W.Write.contents c.put.new.output) l c.put.new.waiting.items) behind_old c.in-Ok-put.ensures.ok in
+    let put = subst (λ l. Forwards (g.W.Write.contents c.args.output.now) (g.W.Write.contents c.append_output.new.output) l c.append_output.new.waiting.items) behind_old c.in-Ok-append_output.ensures.ok in
     next_line held _ text session rest lines at answer.0 reply (command_of-take line ∙ answer.1) answer.2 _ _ answer.3 put c.in-Ok.ensures.number refl
 
 pub returns-in-Err-clause-err : goal.returns-in-Err-clause-err
@@ -23,7 +23,7 @@ returns-in-Err-clause-err g c = λ held text rest lines at.
     let reply = string_bytes c.answer.new.self.reply in
     let behind_old : c.answer.new.self.waiting.items ++ c.as_bytes.result.now ≡ session.waiting.items ++ reply = ap (λ l. l ++ c.as_bytes.result.now) c.answer.ensures.waiting ∙ ap (λ l. session.waiting.items ++ l) c.as_bytes.ensures.value in
     let failed = c.in-Err.ensures.err in
-    let lost = subst (λ l. Forwards (g.W.Write.contents c.args.output.now) (g.W.Write.contents c.put.new.output) l failed.0) behind_old failed.1 in
+    let lost = subst (λ l. Forwards (g.W.Write.contents c.args.output.now) (g.W.Write.contents c.append_output.new.output) l failed.0) behind_old failed.1 in
     (length at.commands + 1, omega (arith, one_more held _ text session rest lines at), closes_reply held _ text session rest lines at _ answer.0 reply failed.0 (command_of-take line ∙ answer.1) answer.2 lost failed.2)
 
 pub returns-in-Err-NoMemory-clause-err : goal.returns-in-Err-NoMemory-clause-err

@@ -12,10 +12,10 @@ pub returns-in_default-flush-clause-closes : goal.returns-in_default-flush-claus
 returns-in_default-flush-clause-closes g c = λ held all out n first prints.
     let bytes = c.args.waiting.now.items ++ c.args.text.now in
     let failed = c.in_default-flush.ensures.err in
-    closes_lost held _ _ all out bytes failed.0 n c.args.end first prints (Forwards-trans _ _ _ bytes c.put.new.waiting.items failed.0 c.in-Ok.ensures.ok failed.1) failed.2
+    closes_lost held _ _ all out bytes failed.0 n c.args.end first prints (Forwards-trans _ _ _ bytes c.append_output.new.waiting.items failed.0 c.in-Ok.ensures.ok failed.1) failed.2
 
 pub returns-clause-closes : goal.returns-clause-closes
 returns-clause-closes g c = λ held all out n first prints.
     let bytes = c.args.waiting.now.items ++ c.args.text.now in
-    let rest = c.put.new.waiting.items in
+    let rest = c.append_output.new.waiting.items in
     closes_all held _ _ all out bytes n c.args.end first prints (Forwards-trans _ _ _ bytes rest [] c.in-Ok.ensures.ok (Forwards-all _ _ rest [] c.in-Ok-flush.ensures.ok refl))

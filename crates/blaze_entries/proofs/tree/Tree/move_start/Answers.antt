@@ -1,6 +1,6 @@
 use Rattle.blaze_entries.proofs.Words.{◌≡◌, length, ap, sym, subst, ◌∙◌, None, IsSome, entries_of, start_at, IsStartMoved}
 use Rattle.blaze_entries.proofs.Held.{nodes_ascend, are_held, start_moved_full}
-use Rattle.blaze_entries.proofs.Lent.{absent_at, present_at}
+use Rattle.blaze_entries.proofs.Borrowed.{absent_at, present_at}
 use Rattle.blaze_entries.proofs.Moves.{start_moved, length_moved}
 use Rattle.blaze_entries.proofs.tree.Tree.move_start.Goals as goal
 

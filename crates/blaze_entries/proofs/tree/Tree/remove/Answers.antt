@@ -2,7 +2,7 @@ use Rattle.blaze_entries.proofs.Words.{◌≡◌, ◌+◌, length, ap, sym, subs
 use Rattle.blaze_entries.proofs.Ascending.{start_without, length-without}
 use Rattle.blaze_entries.proofs.Edits.{removed}
 use Rattle.blaze_entries.proofs.Held.{are_held, full_of}
-use Rattle.blaze_entries.proofs.Lent.{some_taken, full_taken, value_taken, found_at}
+use Rattle.blaze_entries.proofs.Borrowed.{some_taken, full_taken, value_taken, found_at}
 use Rattle.blaze_entries.proofs.NodeLists.{as_entries_lookup}
 use Rattle.blaze_entries.proofs.tree.Tree.remove.Goals as goal
 

@@ -1,6 +1,6 @@
 use Rattle.blaze_entries.proofs.Words.{◌≡◌, ◌+◌, length, ap, sym, subst, ◌∙◌, None, IsSome, entries_of, start_at, IsFrontReplaced}
 use Rattle.blaze_entries.proofs.Held.{nodes_ascend, are_held, front_replaced_full}
-use Rattle.blaze_entries.proofs.Lent.{absent_at, present_at}
+use Rattle.blaze_entries.proofs.Borrowed.{absent_at, present_at}
 use Rattle.blaze_entries.proofs.Moves.{start_front_replaced, length_front_replaced}
 use Rattle.blaze_entries.proofs.tree.Tree.replace_front.Goals as goal
 

@@ -7,7 +7,7 @@ pub returns-in-Some-clause-ok : goal.returns-in-Some-clause-ok
 returns-in-Some-clause-ok g c =
     let rank = g.T.Integer.rank in
     is_front_replaced _ _ _ _ _ _ g.T.Integer.low g.T.Integer.high _ _ _ _ _ c.requires.starts c.requires.present c.requires.absent
-    (ap (shown_nodes rank) c.in_ok-put.ensures.ok ∙ as_entries_insert rank c.args.to _ c.args.place)
+    (ap (shown_nodes rank) c.in_ok-insert_node.ensures.ok ∙ as_entries_insert rank c.args.to _ c.args.place)
     (c.in-Some.ensures.old ∙ as_entries_lookup rank c.args.start _)
     (ap (shown_nodes rank) c.in-Some.ensures.nodes ∙ as_entries_set rank c.args.start _ _ _)
     (ap (shown_nodes rank) c.exchange-in-Some.ensures.nodes ∙ as_entries_set rank c.args.to _ _ _)
@@ -16,5 +16,5 @@ pub returns-in_default-clause-ok : goal.returns-in_default-clause-ok
 returns-in_default-clause-ok g c =
     let rank = g.T.Integer.rank in
     absurd (still_there _ _ _ _ _ _ c.requires.present c.requires.absent
-    (ap (shown_nodes rank) c.in_ok-put.ensures.ok ∙ as_entries_insert rank c.args.to _ c.args.place)
+    (ap (shown_nodes rank) c.in_ok-insert_node.ensures.ok ∙ as_entries_insert rank c.args.to _ c.args.place)
     (rw c.in_default.is at (c.exchange.ensures.old ∙ as_entries_lookup rank c.args.start _)))

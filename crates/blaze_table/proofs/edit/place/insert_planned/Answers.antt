@@ -9,10 +9,10 @@ split_tail-requires-clause-room g c =
     new_room g.V.PartialEq.eq g.met.V.Eq.laws (entry (rank c.args.lo) (rank c.args.plan.end) c.args.value) c.requires.place.order c.args.entries.now.entries c.insert.new.self.entries c.requires.absent
     (ap (λ (s : CountedEntries g.row.V.Denot). s.entries) c.in_ok-insert.ensures.ok) (option_map (shown_ends rank) c.args.plan.tail) c.requires.place.tail
 
-pub split_tail-requires-clause-above : goal.split_tail-requires-clause-above
-split_tail-requires-clause-above g c =
+pub split_tail-requires-clause-tail_value : goal.split_tail-requires-clause-tail_value
+split_tail-requires-clause-tail_value g c =
     let rank = g.T.Integer.rank in
-    above_there g.V.PartialEq.eq g.met.V.Eq.laws rank (rank c.args.lo) c.args.entries.now.entries c.args.plan c.args.above c.requires.canonical c.requires.place
+    above_there g.V.PartialEq.eq g.met.V.Eq.laws rank (rank c.args.lo) c.args.entries.now.entries c.args.plan c.args.tail_value c.requires.canonical c.requires.place
 
 pub remove-requires : goal.remove-requires
 remove-requires g c = record {
@@ -37,14 +37,14 @@ returns-clause-ok g c =
     let rank = g.T.Integer.rank in
     let eq = g.V.PartialEq.eq in
     let es = c.args.entries.now.entries in
-    let like = like_rest eq g.met.V.Eq.laws rank (rank c.args.lo) es c.args.plan c.args.above c.requires.canonical c.requires.place in
+    let like = like_rest eq g.met.V.Eq.laws rank (rank c.args.lo) es c.args.plan c.args.tail_value c.requires.canonical c.requires.place in
     new_started eq g.met.V.Eq.laws (entry (rank c.args.lo) (rank c.args.plan.end) c.args.value) c.requires.place.order es c.insert.new.self.entries c.requires.absent
-    (ap (λ (s : CountedEntries g.row.V.Denot). s.entries) c.in_ok-insert.ensures.ok) (option_map (shown_ends rank) c.args.plan.tail) c.args.above c.split_tail.new.entries.entries c.requires.place.tail like c.in_default.ensures.put
+    (ap (λ (s : CountedEntries g.row.V.Denot). s.entries) c.in_ok-insert.ensures.ok) (option_map (shown_ends rank) c.args.plan.tail) c.args.tail_value c.split_tail.new.entries.entries c.requires.place.tail like c.in_default.ensures.put
 
 pub returns-clause-removed_count : goal.returns-clause-removed_count
 returns-clause-removed_count g c =
     let rank = g.T.Integer.rank in
     let p = entry (rank c.args.lo) (rank c.args.plan.end) c.args.value in
-    new_gone p c.args.plan.removed_count (option_map (shown_ends rank) c.args.plan.tail) c.args.above c.args.entries.now.entries c.insert.new.self.entries c.split_tail.new.entries.entries c.requires.place.removed_count
+    new_gone p c.args.plan.removed_count (option_map (shown_ends rank) c.args.plan.tail) c.args.tail_value c.args.entries.now.entries c.insert.new.self.entries c.split_tail.new.entries.entries c.requires.place.removed_count
     (rest_under (rank c.args.plan.end) c.args.entries.now.entries (option_map (shown_ends rank) c.args.plan.tail) c.requires.place.tail)
     (ap (λ (s : CountedEntries g.row.V.Denot). s.entries) c.in_ok-insert.ensures.ok) c.in_default.ensures.put

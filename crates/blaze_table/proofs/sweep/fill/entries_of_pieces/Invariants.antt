@@ -7,4 +7,4 @@ use Rattle.blaze_table.proofs.sweep.fill.entries_of_pieces.Given as goal
 abbrev pub invariant-loop-start : goal.invariant-loop-start
 invariant-loop-start g l =
     let rank = g.T.Integer.rank in
-    IsFilledSoFar g.V.PartialEq.eq rank g.T.Integer.low g.T.Integer.high l.fn.placed.items (g.T.Integer.high +ℤ pos 1) (shown_list rank (into_iter_items l.start-iterator)) (shown_list rank l.entries.items) l.held.items
+    IsFilledSoFar g.V.PartialEq.eq rank g.T.Integer.low g.T.Integer.high l.fn.placed.items (g.T.Integer.high +ℤ pos 1) (shown_list rank (into_iter_items l.start-iterator)) (shown_list rank l.entries.items) l.values.items

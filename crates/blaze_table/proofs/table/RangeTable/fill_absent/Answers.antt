@@ -25,8 +25,8 @@ returns-in-Ok-clause-ok g c =
     let new = c.join_all.new.entries.entries in
     subst (λ (s : CountedEntries g.row.V.Denot). IsFilled eq g.T.Integer.low g.T.Integer.high p s.entries new) c.self.view_is
     (filled_whole eq g.met.V.Eq.laws g.T.Integer.low g.T.Integer.high (rank c.args.lo) (rank c.args.hi) (rank c.in-Some.first.start) (rank c.in-Some.first.end) c.args.value
-    (map rank c.put_all.new.made.starts.items) (map rank c.put_all.new.made.join_keys.items)
-    c.self.inside.entries.counted.entries c.put_all.new.entries.counted.entries new c.self.invariant.canonical c.in-Some.ensures.gap c.in-Ok.ensures.filled
+    (map rank c.insert_all.new.made.starts.items) (map rank c.insert_all.new.made.join_keys.items)
+    c.self.inside.entries.counted.entries c.insert_all.new.entries.counted.entries new c.self.invariant.canonical c.in-Some.ensures.gap c.in-Ok.ensures.filled
     c.join_all.ensures.same c.join_all.ensures.kept c.join_all.ensures.canonical c.join_all.ensures.keys)
 
 pub returns-in-Ok-clause-held : goal.returns-in-Ok-clause-held
@@ -47,4 +47,4 @@ returns-in-Err-clause-err g c = c.take_back.ensures.entries ∙ c.in-Err.ensures
 pub returns-in-Err-clause-counted : goal.returns-in-Err-clause-counted
 returns-in-Err-clause-counted g c =
     subst (λ (s : CountedEntries g.row.V.Denot). IsCounted s c.take_back.new.entries) c.self.view_is
-    (counted_then c.self.inside.entries.counted c.put_all.new.entries.counted c.take_back.new.entries c.put_all.ensures.counted c.take_back.ensures.counted)
+    (counted_then c.self.inside.entries.counted c.insert_all.new.entries.counted c.take_back.new.entries c.insert_all.ensures.counted c.take_back.ensures.counted)

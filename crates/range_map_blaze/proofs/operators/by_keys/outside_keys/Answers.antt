@@ -3,4 +3,4 @@ use Rattle.range_map_blaze.proofs.Choices.{chosen_off}
 use Rattle.range_map_blaze.proofs.operators.by_keys.outside_keys.Goals as goal
 
 pub returns-then-is_narrow : goal.returns-then-is_narrow
-returns-then-is_narrow g c = IfOk-weaker c.outside_keys_by_value.result _ _ (λ new. chosen_off g.V.PartialEq.eq g.met.V.Eq.laws _ _ _ _ _ _ c.in_ok-clone.ensures.0) c.outside_keys_by_value.ensures
+returns-then-is_narrow g c = IfOk-weaker c.outside_keys_owned.result _ _ (λ new. chosen_off g.V.PartialEq.eq g.met.V.Eq.laws _ _ _ _ _ _ c.in_ok-clone.ensures.0) c.outside_keys_owned.ensures

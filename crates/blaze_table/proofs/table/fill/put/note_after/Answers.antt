@@ -1,6 +1,0 @@
-use Rattle.blaze_table.proofs.Fills.Noted.{noted_too}
-use Rattle.blaze_table.proofs.table.fill.put.note_after.Goals as goal
-
-pub returns-in_ok-push : goal.returns-in_ok-push
-returns-in_ok-push g c =
-    noted_too g.T.Integer.rank c.args.join_keys.now.items c.push.new.self.items c.add_one.result _ c.args.is_joint c.add_one.ensures c.in_ok-push.ensures.items c.if-is_joint.true
