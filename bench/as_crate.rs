@@ -1,6 +1,8 @@
-//! Paints and removals the way of the Rust crate `range-set-blaze` 0.8.0 as it is built without its nightly feature: the
-//! entry before the range is looked at and trimmed, the range is put in, and what it covers is walked over, listed and
-//! taken out. Each of these is a search of its own. Written anew after its published source.
+//! Paints and removals the way of the Rust crate `range-set-blaze` 0.8.0, built without its nightly feature. They were
+//! written anew after its published source.
+//!
+//! A paint reads and trims the entry before the range, inserts the range, lists the entries that it covers, and removes
+//! each of them. Each of these steps is a search.
 #[path = "bare.rs"]
 mod bare;
 
@@ -10,7 +12,7 @@ use super::{RangeMap, length};
 use std::mem::replace;
 
 impl<V: Eq + Clone> RangeMap<V> {
-    /// Puts a value on the keys from `lo` up to `hi`, and says whether the number of keys changed.
+    /// Sets the value of the keys from `lo` up to `hi`, and returns whether the number of keys changed.
     pub fn paint(&mut self, lo: i64, hi: i64, value: V) -> bool {
         if lo > hi {
             return false;
@@ -67,7 +69,8 @@ impl<V: Eq + Clone> RangeMap<V> {
         self.len += length(lo, hi);
     }
 
-    /// Takes out what the entry that starts at `start` and ends at `hi` covers, and joins it with what is above it.
+    /// Removes the keys that the entry from `start` up to `hi` covers from the other entries. Joins it with an equal one
+    /// that touches it from above.
     fn take_covered(&mut self, start: i64, hi: i64) {
         let mut walk = self.tree.range_mut(start..);
         let Some((_, front)) = walk.next() else { return };
@@ -100,7 +103,7 @@ impl<V: Eq + Clone> RangeMap<V> {
         }
     }
 
-    /// Takes a key out, and answers the value that was there.
+    /// Removes a key, and returns its old value.
     pub fn remove(&mut self, key: i64) -> Option<V> {
         let (&start, entry) = self.tree.range_mut(..=key).next_back()?;
         let end = entry.0;
@@ -120,7 +123,7 @@ impl<V: Eq + Clone> RangeMap<V> {
         Some(value)
     }
 
-    /// Takes the least key out, and answers it with its value.
+    /// Removes the least key, and returns it with its value.
     pub fn pop_first(&mut self) -> Option<(i64, V)> {
         let (key, (end, value)) = self.tree.first_entry()?.remove_entry();
         self.len -= 1;

@@ -1,6 +1,6 @@
-//! A node has its value bare.
+//! Nodes that store the value itself.
 
-/// What a node has as its value.
+/// The type that a node stores for a value.
 pub type Held<V> = V;
 
 pub fn hold<V>(value: V) -> Held<V> {

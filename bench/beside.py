@@ -1,7 +1,7 @@
 #!/usr/bin/env python3
-"""Times the Python module beside two lists with `bisect`, a map over `sortedcontainers`, and `intervaltree`. It prints tables in
-Markdown: microseconds of processor time, the least of five rounds. All sides must leave the same entries. A side that is not installed is
-left out (Debian: python3-sortedcontainers, python3-intervaltree). Run `make -C bindings python` first.
+"""Compares the times of the Python module with those of two lists with `bisect`, of a map over `sortedcontainers`, and of `intervaltree`.
+It prints tables in Markdown: microseconds of processor time, the least of five rounds. All sides must have the same results. A side that
+is not installed is left out (Debian: python3-sortedcontainers, python3-intervaltree). Run `make -C bindings python` first.
 
     bench/beside.py [ENTRIES ..]        without numbers: 1000, 10000 and 100000 entries
 """
@@ -50,7 +50,7 @@ class Ours:
 
 
 class Lists:
-    """A list of bounds and a list of values: values[i] lies on bounds[i] to bounds[i + 1]. A gap has the value None."""
+    """A list of bounds and a list of values: the keys from bounds[i] to below bounds[i + 1] have values[i]. A gap has the value None."""
 
     def __init__(self, entries):
         self.bounds, self.values = [], []
@@ -93,7 +93,7 @@ class Lists:
 
 
 class Sorted:
-    """Entries by their starts, disjoint; touching ones are not joined."""
+    """Disjoint entries by their starts. Touching entries are not joined."""
 
     def __init__(self, entries):
         self.ends = SortedDict((start, (stop, value)) for start, stop, value in entries)
@@ -178,7 +178,7 @@ class Tree:
 
 
 def joined(entries):
-    """Touching entries with equal values as one."""
+    """Returns the entries, with those that touch and have equal values as one."""
     out = []
     for start, stop, value in entries:
         if out and out[-1][1] == start and out[-1][2] == value:
@@ -189,7 +189,7 @@ def joined(entries):
 
 
 def measure(side, prepared, few, paints, ranges, keys, is_slow):
-    """The least times of the works, and what they leave."""
+    """Returns the least time of each work, and the results."""
     least = {}
 
     def timed(what, count, work):

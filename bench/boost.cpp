@@ -1,4 +1,4 @@
-// The works of driver.cpp that Boost's interval_map has, with the later value over the earlier.
+// Those works of driver.cpp that Boost's interval_map has. A later value replaces an earlier one.
 #include <boost/icl/interval_map.hpp>
 
 #include <algorithm>
@@ -9,7 +9,7 @@
 namespace {
 
 using Interval = boost::icl::closed_interval<std::int64_t>;
-// Every value is kept, 0 too; touching ranges with equal values are one.
+// The map keeps every value, 0 too. Touching ranges with equal values are one.
 using Map = boost::icl::interval_map<std::int64_t, std::uint64_t, boost::icl::partial_enricher, std::less,
                                      boost::icl::inplace_plus, boost::icl::inter_section, Interval>;
 
@@ -45,7 +45,7 @@ Map prepared(std::uint64_t seed, std::uint64_t size, std::uint64_t gap, std::uin
 
 std::uint64_t mix(std::uint64_t sum, std::uint64_t part) { return sum * 31 + part; }
 
-// The number of keys is counted for the checksum alone: the map does not keep it.
+// It counts the keys for the checksum alone, since the map does not store their number.
 std::uint64_t checksum(bool check, std::uint64_t sum, const Map& map) {
     if (!check) {
         return sum;
@@ -65,7 +65,7 @@ std::vector<Map> copies(std::uint64_t size) {
     return maps;
 }
 
-// Paints, insertions or removals at random places of maps of `size` entries.
+// Makes `count` paints, insertions or removals at random keys of maps of `size` entries.
 template <typename Operation>
 std::uint64_t change(bool check, std::uint64_t size, std::uint64_t count, Operation operation) {
     Draw draw{2};
@@ -157,7 +157,7 @@ std::uint64_t walk(std::uint64_t size, std::uint64_t keys, std::uint64_t count) 
 
 }  // namespace
 
-// Does a work and answers a checksum, which is not 0; 0 where the map has no such operation.
+// Runs a work and returns a checksum, which is not 0. It returns 0 if the map has no such operation.
 extern "C" std::uint64_t boost_run(std::uint32_t work, std::uint64_t size, std::uint64_t count) {
     bool check = work >= checked;
     switch (work % checked) {

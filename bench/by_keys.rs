@@ -1,8 +1,8 @@
 //! Walks over the keys of a map, one by one.
 use super::{mix, prepared};
 
-/// Goes over all keys of a map of `size` entries `count` times: with their values, alone, the values alone, or the same three from
-/// behind.
+/// Iterates over all keys of a map of `size` entries, `count` times. `way` says what it reads: 0 keys and values, 1 keys, 2 values, and
+/// 3 to 5 these three from the end.
 pub fn walk(way: u32, size: u64, count: u64) -> u64 {
     let map = prepared(1, size, 16, 0);
     let mut sum = 0;
@@ -20,8 +20,8 @@ pub fn walk(way: u32, size: u64, count: u64) -> u64 {
     sum
 }
 
-/// Goes over all keys of `count` maps of four, by value.
-pub fn walk_by_value(size: u64, count: u64) -> u64 {
+/// Iterates over all keys of `count` of four owned maps.
+pub fn walk_owned(size: u64, count: u64) -> u64 {
     let map = prepared(1, size, 16, 0);
     let mut sum = 0;
     for map in vec![map; 4].into_iter().take(count as usize) {

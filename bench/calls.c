@@ -1,5 +1,5 @@
-/* Calls of the library for C on one map: `calls CALL ENTRIES TIMES`. Each entry has 10 keys, and a gap of 10 keys is behind it. bench/calls.sh
- * counts the instructions of this program with and without the calls. */
+/* Makes calls of the library for C on one map: `calls CALL ENTRIES TIMES`. Each entry has 10 keys, and a gap of 10 keys comes after it.
+ * bench/calls.sh counts the instructions of this program with and without the calls. */
 #include <stdio.h>
 #include <stdlib.h>
 #include <string.h>
@@ -8,7 +8,7 @@
 
 static uint64_t state = 88172645463325252U;
 
-/* A random key of an entry (Marsaglia's xorshift). */
+/* Returns a random key of an entry, by Marsaglia's xorshift. */
 static int64_t random_key(long entries) {
     state ^= state << 13;
     state ^= state >> 7;

@@ -1,6 +1,6 @@
 #!/usr/bin/env bash
-# Prints the instructions of calls of the library for C, counted by callgrind: those of the program bench/calls.c with 1,000 calls, minus
-# those of the same program with the random keys alone.
+# Prints the instructions of calls of the library for C, counted by callgrind. These are the instructions of the program bench/calls.c with
+# 1,000 calls, minus those of the program with the random keys alone.
 #
 #     bench/calls.sh
 #
@@ -12,7 +12,7 @@ if [ "${1:-}" = --help ]; then
     exit
 fi
 out="${RANGE_MAP_OUT:-../bindings/out}"
-missing() { # what is missing, where it comes from
+missing() { # the missing thing, where it comes from
     echo "bench: there is no $1 here ($2)" >&2
     exit 70
 }

@@ -1,4 +1,4 @@
-// Does a work of one side once, for callgrind to count: bench/growth.sh says how it is called.
+// Runs a work of one side, for callgrind to count. bench/counted.sh says how it is called.
 #include <cstdint>
 #include <cstdio>
 #include <cstdlib>
@@ -19,6 +19,6 @@ int main(int argc, char** argv) {
     std::string side = argv[1];
     auto run = side == "library" ? library_run : side == "plain" ? plain_run : side == "planned" ? planned_run : as_crate_run;
     auto work = static_cast<std::uint32_t>(std::strtoul(argv[2], nullptr, 10));
-    // (a side that has no such work answers 0)
+    // (a side without such a work returns 0)
     return run(work, std::strtoull(argv[3], nullptr, 10), std::strtoull(argv[4], nullptr, 10)) == 0 ? 1 : 0;
 }

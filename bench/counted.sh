@@ -1,7 +1,7 @@
 # Counts the instructions of works by callgrind. bench/growth.sh and bench/instructions.sh read this file, from the folder bench. Before
 # that, their function `works` names the works, each by `work NAME ..`. The words of the command line select some of these.
-# `out/count SIDE WORK SIZE COUNT` is what callgrind runs: a WORK by the number that driver.cpp and `library_run` give it, COUNT times on
-# maps of SIZE entries.
+# Callgrind runs `out/count SIDE WORK SIZE COUNT`, which does a work COUNT times on maps of SIZE entries. WORK is the number of the work
+# in driver.cpp and in `library_run`.
 words=("$@")
 
 # A word that fits no work is an error, before anything is proved.
@@ -25,7 +25,7 @@ counted() { # side, work, entries, calls
     valgrind --tool=callgrind --callgrind-out-file=/dev/null out/count "$@" 2>&1 | sed -n 's/.*Collected : //p'
 }
 
-# The instructions of one of the parts of a work's calls: what all of them take, less what none takes.
+# Prints the instructions of one part of a call: those of all calls, minus those without a call, divided by the number of parts.
 of_one() { # side, work, entries, calls, parts of a call
     local none all
     none="$(counted "$1" "$2" "$3" 0)"
@@ -41,7 +41,7 @@ folder="$(mktemp -d)"
 trap 'rm -rf "$folder"' EXIT
 number=100
 
-# Counts a row beside others, where its name has one of the words.
+# Counts a row in the background, if its name has one of the words.
 work() { # name, what `row` takes
     local word is_picked=$((${#words[@]} == 0))
     for word in "${words[@]}"; do if [[ "$1" == *"$word"* ]]; then is_picked=1; fi; done
@@ -51,7 +51,7 @@ work() { # name, what `row` takes
     row "$@" >"$folder/$number" &
 }
 
-# All rows, in their order.
+# Counts all rows, and prints them in the order of `works`.
 count_works() {
     works
     wait

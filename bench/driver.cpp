@@ -1,7 +1,8 @@
-// Measures the works of a range map on the library, on plain Rust, on plain Rust the Rust crate's way (`as_crate.rs`) and
-// the library's way (`planned.rs`), and on Boost, and prints the tables. Each side does a work with no operation and with
-// many; the difference of the least processor times of several rounds, in which the sides take turns, is the time of the
-// operations alone. A checksum of what they leave must be the same on each side.
+// Measures the works of a range map on five sides, and prints the tables. The sides are the library, plain Rust, plain Rust
+// that works like the Rust crate (`as_crate.rs`) or like the library (`planned.rs`), and Boost.
+//
+// Each side does a work with no operation and with many, in several rounds in which the sides take turns. The time of the
+// operations is the difference of the least processor times. The checksums of the results must be the same on all sides.
 #include <fcntl.h>
 #include <malloc.h>
 #include <sys/resource.h>
@@ -23,8 +24,8 @@
 
 using std::string;
 
-// A side does `count` operations of a work on maps of `size` entries, and answers a checksum, which is not 0; 0 where it has
-// no such work. With `checked` added to the work's number the entries that are left are in the checksum.
+// A side does `count` operations of a work on maps of `size` entries, and returns a checksum, which is not 0. It returns 0 if
+// it has no such work. If `checked` is added to the work's number, the checksum includes the final entries.
 extern "C" {
 std::uint64_t plain_run(std::uint32_t work, std::uint64_t size, std::uint64_t count);
 std::uint64_t library_run(std::uint32_t work, std::uint64_t size, std::uint64_t count);
@@ -47,7 +48,7 @@ constexpr std::size_t plain = 0;
 constexpr std::size_t library = 1;
 constexpr std::size_t as_crate = 2;
 
-// Added to a work's number where the library is to do it through its calls for C.
+// Added to a work's number if the library does it through its calls for C.
 constexpr std::uint32_t by_c = 50;
 
 std::uint64_t run(std::size_t side, std::uint32_t work, std::uint64_t size, std::uint64_t count) {
@@ -62,7 +63,7 @@ struct Work {
     std::uint32_t number;
     std::uint64_t size;
     std::uint64_t most;   // operations
-    double parts;         // of an operation, for the time of one
+    double parts;         // of an operation: the table has the time of one
     const char* part;
 };
 
@@ -143,19 +144,19 @@ const Text texts[] = {
 struct Settings {
     double enough = 1e8;   // nanoseconds for a measured run
     int rounds = 9;
-    std::uint64_t shorter = 1;   // for the lines of texts
+    std::uint64_t shorter = 1;   // texts have this many times fewer lines
     string folder, program, plain_program;
     std::vector<string> picked;
 };
 
-// What was measured of a work on one side.
+// The measured times of a work on one side.
 struct Measured {
     std::uint64_t count = 0;   // 0: not measured
     double least_none = 1e300, least_all = 1e300;
 
     double time() const { return std::max(least_all - least_none, 0.0); }
 
-    // Whether a side is so slow that one round must do.
+    // Whether the side is so slow that it has one round only.
     bool is_slow() const { return least_all < 1e300 && least_all > 3e9; }
 };
 
@@ -173,7 +174,7 @@ double timed(std::size_t side, const Work& work, std::uint64_t count) {
     return now() - start;
 }
 
-// So many operations that they take long enough, beside preparing too, or as many as there may be.
+// Returns how many operations take `least` nanoseconds, and as long as the work without operations. It returns at most `work.most`.
 std::uint64_t enough_operations(std::size_t side, const Work& work, double least) {
     double none = timed(side, work, 0);
     double enough = std::max(least, none);
@@ -193,7 +194,7 @@ std::uint64_t enough_operations(std::size_t side, const Work& work, double least
     std::exit(1);
 }
 
-// Each side leaves the same.
+// Fails if the sides have different checksums.
 void compare(const Work& work, const Measured (&measured)[sides]) {
     std::uint64_t count = work.most;
     for (const Measured& side : measured) {
@@ -356,7 +357,7 @@ void write_text(const Settings& settings, const Text& text, const string& path) 
     }
 }
 
-// The processor time, user and system, of a program on an input.
+// Returns the processor time, user and system, of a program on an input.
 double program_time(const string& program, const string& input, const string& output) {
     pid_t child = fork();
     if (child == 0) {
@@ -430,7 +431,7 @@ int main(int count, char** arguments) {
             settings.picked.push_back(word);
         }
     }
-    // freed memory stays with the process, so that no round takes it from the system anew
+    // freed memory stays with the process, so that no round gets it from the system again
     mallopt(M_MMAP_THRESHOLD, 1 << 30);
     mallopt(M_TRIM_THRESHOLD, 1 << 30);
     Times times;

@@ -15,7 +15,7 @@ if [ "${1:-}" = --help ]; then
     exit
 fi
 
-# The row of a work.
+# Prints the row of a work.
 row() { # name, work, calls, sides
     local side size cells=""
     for side in library plain crate; do

@@ -19,7 +19,7 @@ ratio() { # instructions of the library, of another side
     awk -v one="$1" -v other="$2" 'BEGIN { printf "%.2f", one / other }'
 }
 
-# The row of a work.
+# Prints the row of a work.
 row() { # name, work, entries, calls, parts of a call, sides
     local library other side cells=""
     library="$(of_one library "$2" "$3" "$4" "$5")"

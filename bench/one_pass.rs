@@ -1,4 +1,4 @@
-//! Paints and removals in one pass: a walk over the entries that a range touches moves their ends as it meets them.
+//! Paints and removals in one pass. A walk over the entries that a range touches changes their ends in place.
 #[path = "bare.rs"]
 mod bare;
 
@@ -7,7 +7,7 @@ pub use bare::{Held, give, held, hold};
 use super::{RangeMap, length};
 use std::mem::replace;
 
-/// First keys of entries to be taken out: few as a rule, which then take no memory.
+/// The first keys of the entries that a paint removes. Up to four of them are stored without an allocation.
 #[derive(Default)]
 struct Gone {
     few: [i64; 4],
@@ -26,18 +26,18 @@ impl Gone {
     }
 }
 
-/// What a paint leaves of an entry on its right.
+/// The part of an entry that remains above the painted keys.
 enum Rest<V> {
     Nothing,
-    /// An entry that is cut in two.
+    /// The part of an entry that is cut in two: its last key and its value.
     Copy(i64, V),
     /// An entry that starts among the painted keys: its first key.
     Moved(i64),
 }
 
 impl<V: Eq + Clone> RangeMap<V> {
-    /// Puts a value on the keys from `lo` up to `hi`, and says whether the number of keys changed. One pass backward over
-    /// the entries that touch the keys edits ends in place; what it found is then taken out and put in.
+    /// Sets the value of the keys from `lo` up to `hi`, and returns whether the number of keys changed. One pass backward
+    /// over the entries that touch the keys changes ends in place. Then nodes are removed and inserted.
     pub fn paint(&mut self, lo: i64, hi: i64, value: V) -> bool {
         if lo > hi {
             return false;
@@ -114,7 +114,7 @@ impl<V: Eq + Clone> RangeMap<V> {
         painted != covered
     }
 
-    /// Takes the covered entries out, and puts in what is left on the right of `hi`.
+    /// Removes the covered entries, and inserts the part that remains above `hi`.
     fn settle(&mut self, hi: i64, gone: Gone, rest: Rest<V>) {
         for start in &gone.few[..gone.count] {
             self.tree.remove(start);
@@ -135,7 +135,7 @@ impl<V: Eq + Clone> RangeMap<V> {
         }
     }
 
-    /// Takes a key out, and answers the value that was there.
+    /// Removes a key, and returns its old value.
     pub fn remove(&mut self, key: i64) -> Option<V> {
         let (&start, entry) = self.tree.range_mut(..=key).next_back()?;
         let end = entry.0;
@@ -155,7 +155,7 @@ impl<V: Eq + Clone> RangeMap<V> {
         Some(value)
     }
 
-    /// Takes the least key out, and answers it with its value.
+    /// Removes the least key, and returns it with its value.
     pub fn pop_first(&mut self) -> Option<(i64, V)> {
         let (key, (end, value)) = self.tree.pop_first()?;
         self.len -= 1;

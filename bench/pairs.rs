@@ -1,5 +1,7 @@
-//! The keys of a map with their values, the Rust crate's way: what is left of an opened entry is taken out, and what is left behind
-//! it is put back. Written anew after its published source. Whether `next` is inlined is left to the compiler, as on the library's side.
+//! The keys of a map with their values, the Rust crate's way. This was written anew after its published source.
+//!
+//! `next` takes the tail of the opened entry, and puts back what remains after its first key. The compiler decides whether `next` is
+//! inlined, as on the library's side.
 use super::{Held, RangeMap, give, held};
 use std::collections::btree_map::{IntoIter, Iter};
 
@@ -8,7 +10,7 @@ pub trait Entries<V>: DoubleEndedIterator<Item = (i64, i64, V)> {}
 
 impl<V, I: DoubleEndedIterator<Item = (i64, i64, V)>> Entries<V> for I {}
 
-/// The keys of entries, ascending, each with its entry's value.
+/// An iterator over the keys of entries, ascending, each with its entry's value.
 pub struct Pairs<V, I> {
     front: Option<(i64, i64, V)>,
     inner: I,
@@ -45,12 +47,12 @@ impl<V: Clone, I: Entries<V>> DoubleEndedIterator for Pairs<V, I> {
     }
 }
 
-/// A tree's entries, lent.
-pub struct Lent<'a, V> {
+/// An iterator over the entries of a borrowed tree.
+pub struct Borrowed<'a, V> {
     nodes: Iter<'a, i64, (i64, Held<V>)>,
 }
 
-impl<'a, V> Iterator for Lent<'a, V> {
+impl<'a, V> Iterator for Borrowed<'a, V> {
     type Item = (i64, i64, &'a V);
 
     fn next(&mut self) -> Option<(i64, i64, &'a V)> {
@@ -58,13 +60,13 @@ impl<'a, V> Iterator for Lent<'a, V> {
     }
 }
 
-impl<V> DoubleEndedIterator for Lent<'_, V> {
+impl<V> DoubleEndedIterator for Borrowed<'_, V> {
     fn next_back(&mut self) -> Option<Self::Item> {
         self.nodes.next_back().map(|(start, (end, value))| (*start, *end, held(value)))
     }
 }
 
-/// A tree's entries by value.
+/// An iterator over the entries of an owned tree.
 pub struct Owned<V> {
     nodes: IntoIter<i64, (i64, Held<V>)>,
 }
@@ -84,12 +86,12 @@ impl<V> DoubleEndedIterator for Owned<V> {
 }
 
 impl<V: Eq + Clone> RangeMap<V> {
-    /// The keys, ascending, each with its value.
-    pub fn pairs(&self) -> Pairs<&V, Lent<'_, V>> {
-        Pairs::new(Lent { nodes: self.tree.iter() })
+    /// Returns an iterator over the keys of a borrowed map, ascending, each with its value.
+    pub fn pairs(&self) -> Pairs<&V, Borrowed<'_, V>> {
+        Pairs::new(Borrowed { nodes: self.tree.iter() })
     }
 
-    /// The same by value.
+    /// Returns an iterator over the keys of an owned map, ascending, each with its value.
     pub fn into_pairs(self) -> Pairs<V, Owned<V>> {
         Pairs::new(Owned { nodes: self.tree.into_iter() })
     }

@@ -9,13 +9,13 @@ use ranges::RangeMap;
 
 type Map = RangeMap<u64>;
 
-/// Keys for each entry of a prepared map, on average, with the gap behind it.
+/// The average number of keys for each entry of a prepared map, including the gap before it.
 const SPACING: u64 = 17;
 
-/// Added to a work's number where the entries that are left are to be in the checksum.
+/// Added to a work's number to include the final entries in the checksum.
 const CHECKED: u32 = 100;
 
-/// A map of `size` entries of 1 to 16 keys, or of `keys` keys, behind gaps of 1 to `gap` keys.
+/// Returns a map of `size` entries of 1 to 16 keys, or of `keys` keys, after gaps of 1 to `gap` keys.
 fn prepared(seed: u64, size: u64, gap: u64, keys: u64) -> Map {
     let mut draw = Draw(seed);
     let mut next = 0;
@@ -28,10 +28,12 @@ fn prepared(seed: u64, size: u64, gap: u64, keys: u64) -> Map {
     Map::from_ascending(size as usize, entries)
 }
 
+/// Adds a part to a checksum.
 fn mix(sum: u64, part: u64) -> u64 {
     sum.wrapping_mul(31).wrapping_add(part)
 }
 
+/// Adds a map to a checksum: the number of its keys, and its entries if they are checked.
 fn checksum(check: bool, mut sum: u64, map: &Map) -> u64 {
     if check {
         for (start, end, value) in map.entries() {
@@ -41,13 +43,13 @@ fn checksum(check: bool, mut sum: u64, map: &Map) -> u64 {
     mix(sum, map.len() as u64)
 }
 
-/// Copies of a map, so that each has at most `size` of the operations.
+/// Returns copies of a map, enough for each to get at most `size` of the operations.
 fn copies(size: u64) -> Vec<Map> {
     let map = prepared(1, size, 16, 0);
     vec![map; (100_000 / size).max(1) as usize]
 }
 
-/// Paints, insertions or removals at random places of maps of `size` entries.
+/// Makes `count` paints, insertions or removals at random keys of maps of `size` entries.
 fn change(check: bool, size: u64, count: u64, operation: fn(&mut Map, &mut Draw, u64, u64) -> u64) -> u64 {
     let mut draw = Draw(2);
     let (mut sum, mut left) = (0, count);
@@ -86,7 +88,7 @@ fn remove(map: &mut Map, draw: &mut Draw, limit: u64, count: u64) -> u64 {
     sum
 }
 
-/// Ranges with about so many gaps each, one above another, in a map of 100,000 entries: their gaps are looked up and painted.
+/// Fills ranges with about `gaps` gaps each, from the least key up, in a map of 100,000 entries. It looks up each gap and paints it.
 fn fill(check: bool, gaps: u64, count: u64) -> u64 {
     let mut map = prepared(1, 100_000, 16, 0);
     let mut draw = Draw(2);
@@ -106,7 +108,7 @@ fn fill(check: bool, gaps: u64, count: u64) -> u64 {
     checksum(check, 0, &map)
 }
 
-/// Sixteen paints at a time among the same 64 keys, then among the next 64.
+/// Paints sixteen ranges at a time within the same 64 keys, then within the next 64.
 fn paint_clumps(check: bool, count: u64) -> u64 {
     let mut draw = Draw(2);
     let mut map = Map::default();
@@ -141,7 +143,7 @@ fn split_off(check: bool, size: u64, count: u64) -> u64 {
     sum
 }
 
-/// The map on the lower half of the keys, made again and again.
+/// Builds the map of the lower half of the keys, repeatedly.
 fn within(size: u64, count: u64) -> u64 {
     let map = prepared(1, size, 16, 0);
     let middle = (SPACING * size / 2) as i64;
@@ -191,7 +193,7 @@ fn pop_last(check: bool, size: u64, count: u64) -> u64 {
     checksum(check, sum, &map)
 }
 
-/// All entries kept, again and again.
+/// Calls `ranges_retain` repeatedly and keeps all entries.
 fn retain(check: bool, size: u64, count: u64) -> u64 {
     let mut map = prepared(1, size, 16, 0);
     for _ in 0..count {
@@ -200,7 +202,7 @@ fn retain(check: bool, size: u64, count: u64) -> u64 {
     checksum(check, 0, &map)
 }
 
-/// The entries kept whose value is below a limit, of four maps.
+/// Keeps the entries of four maps whose value is below a limit.
 fn retain_below(check: bool, size: u64, count: u64, limit: u64) -> u64 {
     let map = prepared(1, size, 16, 0);
     let mut sum = 0;
@@ -213,7 +215,7 @@ fn retain_below(check: bool, size: u64, count: u64, limit: u64) -> u64 {
     sum
 }
 
-/// An operation on two lent maps, again and again.
+/// Combines two borrowed maps, repeatedly.
 fn combine(check: bool, size: u64, other: u64, count: u64, operation: fn(&Map, &Map) -> Map) -> u64 {
     let map = prepared(1, size, 16, 0);
     let other = prepared(3, other, 16 * (size / other), 0);
@@ -224,7 +226,8 @@ fn combine(check: bool, size: u64, other: u64, count: u64, operation: fn(&Map, &
     sum
 }
 
-/// The same with a map whose entries, one for each sixteen, cover nearly all of the other's.
+/// Combines a borrowed map with a wide map, repeatedly. The wide map has one entry for each sixteen of the other's, and they cover
+/// nearly all keys of the other.
 fn combine_wide(check: bool, size: u64, count: u64, operation: fn(&Map, &Map) -> Map) -> u64 {
     let map = prepared(1, size, 16, 0);
     let other = prepared(3, size / 16, 0, 16 * SPACING);
@@ -235,8 +238,8 @@ fn combine_wide(check: bool, size: u64, count: u64, operation: fn(&Map, &Map) ->
     sum
 }
 
-/// The same, of four maps by value.
-fn combine_wide_by_value(check: bool, size: u64, count: u64, operation: fn(Map, Map) -> Map) -> u64 {
+/// Combines each of four owned maps with an owned map that is as wide.
+fn combine_wide_owned(check: bool, size: u64, count: u64, operation: fn(Map, Map) -> Map) -> u64 {
     let map = prepared(1, size, 16, 0);
     let other = prepared(3, size / 16, 0, 16 * SPACING);
     let mut sum = 0;
@@ -247,8 +250,8 @@ fn combine_wide_by_value(check: bool, size: u64, count: u64, operation: fn(Map, 
     sum
 }
 
-/// A map that small maps are combined with, one after another, all by value.
-fn combine_by_value(check: bool, size: u64, count: u64, operation: fn(Map, Map) -> Map) -> u64 {
+/// Combines an owned map with small owned maps, one after another.
+fn combine_owned(check: bool, size: u64, count: u64, operation: fn(Map, Map) -> Map) -> u64 {
     let mut map = prepared(1, size, 16, 0);
     let others: Vec<Map> = (3..1003).map(|seed| prepared(seed, 100, 16 * (size / 100), 0)).collect();
     for other in others.into_iter().take(count as usize) {
@@ -257,7 +260,7 @@ fn combine_by_value(check: bool, size: u64, count: u64, operation: fn(Map, Map) 
     checksum(check, 0, &map)
 }
 
-/// Each key with its value, again and again.
+/// Iterates over the keys with their values, repeatedly. Each entry has `keys` keys.
 fn walk(size: u64, keys: u64, count: u64) -> u64 {
     let map = prepared(1, size, 16, keys);
     let mut sum = 0u64;
@@ -274,7 +277,7 @@ fn walk(size: u64, keys: u64, count: u64) -> u64 {
     sum
 }
 
-/// So many ranges of 1 to 16 keys with values, at random places or one above another.
+/// Returns `size` ranges of 1 to 16 keys with values, ascending or at random keys.
 fn pairs(is_sorted: bool, size: u64) -> Vec<(i64, i64, u64)> {
     let mut draw = Draw(2);
     let mut next = 0;
@@ -288,7 +291,7 @@ fn pairs(is_sorted: bool, size: u64) -> Vec<(i64, i64, u64)> {
         .collect()
 }
 
-/// Ranges painted one by one, again and again.
+/// Builds a map by painting ranges at random keys one by one, repeatedly.
 fn paint_all(check: bool, size: u64, count: u64) -> u64 {
     let pairs = pairs(false, size);
     let mut sum = 0;
@@ -302,7 +305,7 @@ fn paint_all(check: bool, size: u64, count: u64) -> u64 {
     sum
 }
 
-/// Ranges one above another, joined and copied into the tree by std's bulk build, again and again.
+/// Builds a map from ascending ranges, repeatedly. It joins them in a list, from which std builds the tree.
 fn copy_sorted(check: bool, size: u64, count: u64) -> u64 {
     let pairs = pairs(true, size);
     let mut sum = 0;
@@ -319,7 +322,7 @@ fn copy_sorted(check: bool, size: u64, count: u64) -> u64 {
     sum
 }
 
-/// The union of so many lent maps, 100,000 entries in all, in rounds of two, again and again.
+/// Builds the union of `maps` borrowed maps of 100,000 entries in all, two at a time in rounds, repeatedly.
 fn union_of_many(check: bool, maps: u64, count: u64) -> u64 {
     let maps: Vec<Map> = (1..=maps).map(|seed| prepared(seed, 100_000 / maps, 16 * maps, 0)).collect();
     let mut sum = 0;
@@ -330,7 +333,7 @@ fn union_of_many(check: bool, maps: u64, count: u64) -> u64 {
             round = Vec::new();
             while let Some(map) = left.next() {
                 round.push(match left.next() {
-                    Some(other) => map.union_by_value(other),
+                    Some(other) => map.union_owned(other),
                     None => map,
                 });
             }
@@ -340,13 +343,13 @@ fn union_of_many(check: bool, maps: u64, count: u64) -> u64 {
     sum
 }
 
-/// Does a work and answers a checksum, which is not 0; 0 where there is no such work.
+/// Runs a work and returns a checksum, which is not 0. It returns 0 if no work has the number.
 #[cfg_attr(planned, unsafe(export_name = "planned_run"))]
 #[cfg_attr(as_crate, unsafe(export_name = "as_crate_run"))]
 #[cfg_attr(not(any(planned, as_crate)), unsafe(no_mangle))]
 pub extern "C" fn plain_run(work: u32, size: u64, count: u64) -> u64 {
     let check = work >= CHECKED;
-    // (only what the Rust crate's way differs in)
+    // (only the works that the Rust crate does in another way)
     if cfg!(as_crate) && !matches!(work % CHECKED, 0..=3 | 6..=11 | 19 | 26 | 27 | 37 | 38 | 42..=48) {
         return 0;
     }
@@ -362,7 +365,7 @@ pub extern "C" fn plain_run(work: u32, size: u64, count: u64) -> u64 {
         8 => combine(check, size, size, count, Map::union),
         9 => combine(check, size, size / 10, count, Map::union),
         10 => combine(check, size, 100, count, Map::union),
-        11 => combine_by_value(check, size, count, Map::union_by_value),
+        11 => combine_owned(check, size, count, Map::union_owned),
         12 => combine(check, size, size, count, Map::intersection),
         13 => combine(check, size, size, count, Map::difference),
         14 => combine(check, size, size, count, Map::symmetric_difference),
@@ -373,9 +376,9 @@ pub extern "C" fn plain_run(work: u32, size: u64, count: u64) -> u64 {
         20 => union_of_many(check, size, count),
         21 => combine(check, size, 100, count, |map, few| few.intersection(map)),
         22 => combine(check, size, 100, count, Map::difference),
-        23 => combine_by_value(check, size, count, |map, other| map.difference_by_value(&other)),
+        23 => combine_owned(check, size, count, |map, other| map.difference_owned(&other)),
         28 => combine(check, size, 100, count, Map::symmetric_difference),
-        29 => combine_by_value(check, size, count, |map, other| map.symmetric_difference(&other)),
+        29 => combine_owned(check, size, count, |map, other| map.symmetric_difference(&other)),
         24 => within(size, count),
         25 => fill(check, size, count),
         26 => pop_last(check, size, count),
@@ -384,12 +387,12 @@ pub extern "C" fn plain_run(work: u32, size: u64, count: u64) -> u64 {
         37 => retain_below(check, size, count, 2),
         38 => retain_below(check, size, count, 0),
         39 => combine_wide(check, size, count, Map::difference),
-        40 => combine_wide_by_value(check, size, count, |map, other| map.difference_by_value(&other)),
+        40 => combine_wide_owned(check, size, count, |map, other| map.difference_owned(&other)),
         41 => combine_wide(check, size, count, Map::symmetric_difference),
         #[cfg(as_crate)]
         number @ 42..=47 => by_keys::walk(number - 42, size, count),
         #[cfg(as_crate)]
-        48 => by_keys::walk_by_value(size, count),
+        48 => by_keys::walk_owned(size, count),
         _ => return 0,
     };
     sum | 1

@@ -1,5 +1,5 @@
-//! The program `rangemap` over the plain Rust map: the same lines and answers, read in chunks, with the answers of a chunk
-//! written before the next is read.
+//! The program `rangemap` over the plain Rust map, with the same lines and answers. It reads its input in chunks, and writes
+//! the answers to a chunk before it reads the next.
 mod ranges;
 
 use ranges::RangeMap;
@@ -10,10 +10,10 @@ type Map = RangeMap<String>;
 
 const CHUNK: usize = 8192;
 
-/// How a line is at fault.
+/// The error of an invalid line.
 struct Bad;
 
-/// The number that an optional minus and one to nineteen digits write.
+/// Parses a number: an optional minus, and one to nineteen digits.
 fn number(text: &[u8]) -> Result<i64, Bad> {
     let (is_negative, digits) = match text {
         [b'-', digits @ ..] => (true, digits),
@@ -36,7 +36,7 @@ fn number(text: &[u8]) -> Result<i64, Bad> {
     }
 }
 
-/// One to thirty-two letters or digits.
+/// Parses a word: one to thirty-two letters or digits.
 fn word(text: &[u8]) -> Result<String, Bad> {
     if text.is_empty() || text.len() > 32 || !text.iter().all(u8::is_ascii_alphanumeric) {
         return Err(Bad);
@@ -48,7 +48,7 @@ fn word_or_dash(word: Option<&String>) -> &str {
     word.map_or("-", String::as_str)
 }
 
-/// Does what a line asks, and puts the answer behind the others.
+/// Runs a line, and appends its answer to `output`.
 fn answer(map: &mut Map, line: &[u8], output: &mut Vec<u8>) -> Result<(), Bad> {
     if line.is_empty() {
         return Ok(());
@@ -90,7 +90,7 @@ fn list(map: &Map, output: &mut Vec<u8>) -> io::Result<()> {
     writeln!(output)
 }
 
-/// Answers the lines of standard input; the number of a bad line ends it.
+/// Answers the lines of standard input. It ends at the first invalid line, and returns the number of that line.
 fn serve() -> io::Result<Option<u64>> {
     let (mut input, mut output) = (io::stdin().lock(), io::stdout().lock());
     let mut map = Map::default();

@@ -1,8 +1,8 @@
-//! Paints and removals the library's way: what the range touches is seen first, places are made before anything
-//! is moved, and an end is moved by a search of its own. So a node can have an empty place for its value.
+//! Paints and removals the library's way. A paint first reads the entries that the range touches. It inserts a node before
+//! it moves a value to it, so a node may be without a value. It makes another search to move an entry's end.
 use super::{RangeMap, length};
 
-/// What a node has as its value: none while one is on its way.
+/// The type that a node stores for a value: `None` until the value is moved to it.
 pub type Held<V> = Option<V>;
 
 pub fn hold<V>(value: V) -> Held<V> {
@@ -17,17 +17,17 @@ pub fn give<V>(value: Held<V>) -> V {
     value.expect("a value")
 }
 
-/// What a paint has to know of the entries that its range touches.
+/// The facts that a paint needs about the entries that its range touches.
 struct Plan {
-    /// Where the range ends, joined with what is above it.
+    /// The last key of the range, or of an equal entry that touches it from above.
     end: i64,
-    /// The first key of the entry that keeps a rest above the range.
+    /// The first key of the entry whose part above the range remains.
     rest: Option<i64>,
-    /// The end of the entry that starts where the range does, and whether its value is the same.
+    /// The entry that starts with the range: last key, and whether its value is the same.
     first: Option<(i64, bool)>,
     /// The entry that starts below the range: first key, last key, and whether its value is the same.
     left: Option<(i64, i64, bool)>,
-    /// How many keys of the range have a value.
+    /// The number of keys of the range that have a value.
     keys: u128,
 }
 
@@ -54,7 +54,7 @@ impl<V: Eq + Clone> RangeMap<V> {
         plan
     }
 
-    /// Puts a value on the keys from `lo` up to `hi`, and says whether the number of keys changed.
+    /// Sets the value of the keys from `lo` up to `hi`, and returns whether the number of keys changed.
     pub fn paint(&mut self, lo: i64, hi: i64, value: V) -> bool {
         if lo > hi {
             return false;
@@ -79,7 +79,7 @@ impl<V: Eq + Clone> RangeMap<V> {
         is_changed
     }
 
-    /// Lengthens the entry that starts at `start` over the range.
+    /// Extends the entry that starts at `start` to the end of the range.
     fn paint_on(&mut self, start: i64, plan: Plan) {
         if let Some(rest) = plan.rest {
             self.move_start(rest, plan.end + 1);
@@ -88,7 +88,7 @@ impl<V: Eq + Clone> RangeMap<V> {
         self.set_end(start, plan.end, |_| ());
     }
 
-    /// Puts the value in an entry of its own.
+    /// Inserts the value as a new entry.
     fn paint_beside(&mut self, lo: i64, value: V, plan: Plan) {
         let front = (plan.end, Some(value));
         match plan.rest {
@@ -132,7 +132,7 @@ impl<V: Eq + Clone> RangeMap<V> {
         }
     }
 
-    /// Takes out what starts above `first`, up to `end`.
+    /// Removes the entries that start above `first` and at most at `end`.
     fn clear(&mut self, first: i64, end: i64) {
         while first < end
             && let Some((&start, _)) = self.tree.range(first + 1..).next()
@@ -142,7 +142,7 @@ impl<V: Eq + Clone> RangeMap<V> {
         }
     }
 
-    /// Takes a key out, and answers the value that was there.
+    /// Removes a key, and returns its old value.
     pub fn remove(&mut self, key: i64) -> Option<V> {
         let (&start, &(end, _)) = self.tree.range(..=key).next_back()?;
         if end < key {
@@ -159,7 +159,7 @@ impl<V: Eq + Clone> RangeMap<V> {
         value
     }
 
-    /// Takes the first key of an entry out.
+    /// Removes the first key of an entry, and returns its old value.
     fn remove_first(&mut self, key: i64, end: i64) -> Option<V> {
         if key < end {
             let copy = self.tree.get(&key)?.1.clone();
@@ -168,7 +168,7 @@ impl<V: Eq + Clone> RangeMap<V> {
         self.tree.remove(&key)?.1
     }
 
-    /// Takes the least key out, and answers it with its value.
+    /// Removes the least key, and returns it with its value.
     pub fn pop_first(&mut self) -> Option<(i64, V)> {
         let (&key, &(end, ref value)) = self.tree.first_key_value()?;
         if key < end {

@@ -1,10 +1,10 @@
 #!/usr/bin/env python3
-"""Draws the driver's figures: the time of a paint, of a lookup and of a union, against the number of entries, on four sides.
+"""Draws the driver's figures: the time of a paint, of a lookup and of a union against the number of entries, on four sides.
 
     bench/run.sh paint get 'equal sizes' | bench/plot.py >docs/speed.svg
 
-Both scales are logarithmic. A side that did few operations has no point there, and one that was not measured, as Boost without its
-headers, has no line.
+Both scales are logarithmic. A side that did few operations has no point there. A side that was not measured has no line, such as Boost
+without its headers.
 
 >>> nanoseconds("1,234"), nanoseconds("1,234 (fewer)"), nanoseconds("-"), entries("10^4"), entries("2000")
 (1234.0, None, None, 10000, 2000)
@@ -15,14 +15,14 @@ from collections.abc import Iterable, Iterator
 from html import escape
 from typing import NamedTuple
 
-# The colour of each side, and how its line is dashed, so that one that lies on another is seen.
+# The colour of each side, and the dashes of its line. Two lines that overlap are both visible, since their dashes differ.
 SIDES = {"library": ("#1f5fa8", "none"), "plain Rust": ("#6f6f6f", "2 4"), "the crate's way": ("#b3541e", "8 4"), "Boost": ("#3f7d3a", "12 3 2 3")}
 PANELS = {"paint": "a paint", "get": "a lookup", "`a \\| b`, equal sizes": "a | b, for each entry of both"}
 WIDTH, HEIGHT, LEFT, RIGHT, TOP, BOTTOM = 340, 300, 64, 32, 64, 40
 
 
 class Point(NamedTuple):
-    """The time of one operation of a work, on maps of so many entries."""
+    """The time of one operation of a work on one side, for maps with a number of entries."""
 
     work: str
     side: str
@@ -31,19 +31,19 @@ class Point(NamedTuple):
 
 
 def nanoseconds(cell: str) -> float | None:
-    """The time that a cell of the driver's table says, if the side did as many operations as the others."""
+    """Returns the time in a cell of the driver's table, or None if the side did few operations or was not measured."""
     return None if cell == "-" or cell.endswith("(fewer)") else float(cell.replace(",", ""))
 
 
 def entries(cell: str) -> int:
-    """The number of entries that a cell says."""
+    """Returns the number of entries in a cell."""
     base, _, power = cell.partition("^")
     number: int = int(base) ** int(power or 1)
     return number
 
 
 def read(lines: Iterable[str]) -> Iterator[Point]:
-    """The points of a table in Markdown, whose first line names its columns.
+    """Yields the points of a table in Markdown, whose first line names its columns.
 
     >>> head = "| work | entries | time of one | plain Rust, ns | library, ns |"
     >>> list(read([head, "|---|---|---|---|---|", "| get | 10^3 | key | 90 | 80.5 |"]))[1]
@@ -63,12 +63,12 @@ def read(lines: Iterable[str]) -> Iterator[Point]:
 
 
 def text(x: float, y: float, words: str, anchor: str = "middle", colour: str = "#333333", size: int = 12) -> str:
-    """Words at a place."""
+    """Returns the SVG of words at a position."""
     return f'<text x="{x:.1f}" y="{y:.1f}" text-anchor="{anchor}" font-size="{size}" fill="{colour}">{escape(words)}</text>'
 
 
 def panel(left: float, title: str, points: list[Point]) -> Iterator[str]:
-    """One work: its scales, and a line for each side."""
+    """Yields the SVG of one work: its scales, and a line for each side."""
     counts, times = [p.entries for p in points], [p.time for p in points]
     powers = range(math.floor(math.log10(min(counts))), math.ceil(math.log10(max(counts))) + 1)
     steps = [first * 10**power for power in range(-1, 10) for first in (1, 2, 5)]
@@ -97,7 +97,7 @@ def panel(left: float, title: str, points: list[Point]) -> Iterator[str]:
 
 
 def picture(points: list[Point]) -> Iterator[str]:
-    """The lines of the SVG."""
+    """Yields the lines of the SVG."""
     works = [work for work in PANELS if any(p.work == work for p in points)]
     width = WIDTH * max(len(works), 1)
     yield f'<svg xmlns="http://www.w3.org/2000/svg" viewBox="0 0 {width} {HEIGHT}" font-family="sans-serif">'

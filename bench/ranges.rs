@@ -1,4 +1,4 @@
-//! The yardstick: a map from ranges of integers to values over std's `BTreeMap`, with a kept number of keys, in plain Rust.
+//! A map from ranges of integers to values in plain Rust, over std's `BTreeMap`. It stores its number of keys.
 #[cfg_attr(planned, path = "planned.rs")]
 #[cfg_attr(as_crate, path = "as_crate.rs")]
 #[cfg_attr(not(any(planned, as_crate)), path = "one_pass.rs")]
@@ -16,7 +16,7 @@ use std::mem::{replace, take};
 use std::ops::Bound::{Excluded, Unbounded};
 use std::ops::RangeInclusive;
 
-/// The entries by their first keys: the last key and the value.
+/// A map from ranges to values. The tree has the last key and the value of each entry, by its first key.
 #[derive(Clone)]
 pub struct RangeMap<V> {
     tree: BTreeMap<i64, (i64, Held<V>)>,
@@ -29,13 +29,13 @@ impl<V> Default for RangeMap<V> {
     }
 }
 
-/// How many keys lie from `start` up to `end`.
+/// Returns the number of keys from `start` up to `end`.
 fn length(start: i64, end: i64) -> u128 {
     (i128::from(end) - i128::from(start) + 1) as u128
 }
 
 impl<V: Eq + Clone> RangeMap<V> {
-    /// The map of ascending entries, where later ones may touch earlier ones.
+    /// Returns the map of ascending entries. Touching entries with equal values become one entry.
     pub fn from_ascending(capacity: usize, entries: impl Iterator<Item = (i64, i64, V)>) -> Self {
         let mut gathered = Gathered::with_capacity(capacity);
         for (start, end, value) in entries {
@@ -44,24 +44,24 @@ impl<V: Eq + Clone> RangeMap<V> {
         gathered.build()
     }
 
-    /// The number of keys.
+    /// Returns the number of keys.
     pub fn len(&self) -> u128 {
         self.len
     }
 
-    /// The entries, ascending.
+    /// Returns an iterator over the entries, ascending.
     pub fn entries(&self) -> impl Iterator<Item = (i64, i64, &V)> {
         self.tree.iter().map(|(start, (end, value))| (*start, *end, held(value)))
     }
 
-    /// Puts a value on a key, and answers the value that was there.
+    /// Sets the value of a key, and returns its old value.
     pub fn insert(&mut self, key: i64, value: V) -> Option<V> {
         let old = self.get(key).cloned();
         self.paint(key, key, value);
         old
     }
 
-    /// Takes the greatest key out, and answers it with the value that was there.
+    /// Removes the greatest key, and returns it with its value.
     pub fn pop_last(&mut self) -> Option<(i64, V)> {
         let mut last = self.tree.last_entry()?;
         let (start, end) = (*last.key(), last.get().0);
@@ -73,7 +73,7 @@ impl<V: Eq + Clone> RangeMap<V> {
         Some((end, give(last.remove().1)))
     }
 
-    /// Keeps the entries at which a closure answers true.
+    /// Keeps the entries for which a closure returns `true`.
     pub fn ranges_retain(&mut self, mut keeps: impl FnMut(&RangeInclusive<i64>, &V) -> bool) {
         let len = &mut self.len;
         self.tree.retain(|start, (end, value)| {
@@ -85,13 +85,13 @@ impl<V: Eq + Clone> RangeMap<V> {
         });
     }
 
-    /// The value at a key.
+    /// Returns the value at a key.
     pub fn get(&self, key: i64) -> Option<&V> {
         let (_, (end, value)) = self.tree.range(..=key).next_back()?;
         if key <= *end { Some(held(value)) } else { None }
     }
 
-    /// The map on the keys from `lo` up to `hi`.
+    /// Returns the map of the keys from `lo` up to `hi`.
     pub fn within(&self, lo: i64, hi: i64) -> Self {
         let first = match self.tree.range(..=lo).next_back() {
             Some((start, (end, _))) if *end >= lo => *start,
@@ -102,7 +102,7 @@ impl<V: Eq + Clone> RangeMap<V> {
         Self::from_ascending(0, pieces)
     }
 
-    /// Keeps the keys below one, and answers the map of the keys from it on.
+    /// Keeps the keys below `key`, and returns the map of the others.
     pub fn split_off(&mut self, key: i64) -> Self {
         let mut tree = self.tree.split_off(&key);
         if let Some((_, entry)) = self.tree.range_mut(..key).next_back()
@@ -116,17 +116,17 @@ impl<V: Eq + Clone> RangeMap<V> {
         RangeMap { tree, len }
     }
 
-    /// Takes the entries of another map over; where both have a value, the other's wins.
+    /// Moves the entries of `other` to this map. At keys that both maps have, the value is that of `other`.
     pub fn append(&mut self, other: &mut Self) {
         let other = take(other);
         if cfg!(as_crate) {
             self.paint_all(&other);
         } else {
-            *self = take(self).union_by_value(other);
+            *self = take(self).union_owned(other);
         }
     }
 
-    /// The values of `other` where it has some, and else those of `self`.
+    /// Returns the union. At keys that both maps have, the value is that of `other`.
     pub fn union(&self, other: &Self) -> Self {
         if are_few(other.tree.len(), self.tree.len()) {
             let mut map = self.clone();
@@ -140,8 +140,8 @@ impl<V: Eq + Clone> RangeMap<V> {
         gathered.build()
     }
 
-    /// The same, where both maps may be used up.
-    pub fn union_by_value(mut self, other: Self) -> Self {
+    /// Returns the union of two owned maps. At keys that both maps have, the value is that of `other`.
+    pub fn union_owned(mut self, other: Self) -> Self {
         if are_few(other.tree.len(), self.tree.len()) {
             self.paint_all(&other);
             return self;
@@ -159,7 +159,7 @@ impl<V: Eq + Clone> RangeMap<V> {
         }
     }
 
-    /// The values of `other` on the keys of both.
+    /// Returns the keys that both maps have, with the values of `other`.
     pub fn intersection(&self, other: &Self) -> Self {
         let mut gathered = Gathered::with_capacity(self.tree.len().max(other.tree.len()));
         let (mut left, mut right) = (self.entries(), other.entries());
@@ -178,7 +178,7 @@ impl<V: Eq + Clone> RangeMap<V> {
         gathered.build()
     }
 
-    /// Takes the keys from `lo` up to `hi` out; an entry that goes on below or above them keeps the rest.
+    /// Removes the keys from `lo` up to `hi`. An entry that extends past them keeps its other keys.
     fn cut(&mut self, lo: i64, hi: i64) {
         if let Some((_, entry)) = self.tree.range_mut(..lo).next_back()
             && entry.0 >= lo
@@ -202,8 +202,8 @@ impl<V: Eq + Clone> RangeMap<V> {
         }
     }
 
-    /// The values of `self` off the keys of `other`, where `self` may be used up.
-    pub fn difference_by_value(mut self, other: &Self) -> Self {
+    /// Returns the keys of an owned map that `other` does not have, with their values.
+    pub fn difference_owned(mut self, other: &Self) -> Self {
         if cfg!(as_crate) || !are_few(other.tree.len(), self.tree.len()) {
             return self.difference(other);
         }
@@ -213,10 +213,10 @@ impl<V: Eq + Clone> RangeMap<V> {
         self
     }
 
-    /// The values of `self` off the keys of `other`.
+    /// Returns the keys that `other` does not have, with their values.
     pub fn difference(&self, other: &Self) -> Self {
         if !cfg!(as_crate) && are_few(other.tree.len(), self.tree.len()) {
-            return self.clone().difference_by_value(other);
+            return self.clone().difference_owned(other);
         }
         let mut gathered = Gathered::with_capacity(self.tree.len());
         let mut right = other.entries();
@@ -242,7 +242,7 @@ impl<V: Eq + Clone> RangeMap<V> {
         gathered.build()
     }
 
-    /// The values on the keys that exactly one of the two maps has.
+    /// Returns the keys that exactly one of the two maps has, with their values.
     pub fn symmetric_difference(&self, other: &Self) -> Self {
         let mut gathered = Gathered::with_capacity(self.tree.len() + other.tree.len());
         let (mut left, mut right) = (self.entries(), other.entries());
@@ -277,7 +277,8 @@ impl<V: Eq + Clone> RangeMap<V> {
         }
     }
 
-    /// The entry that holds a key: its first and last key and its value; else the gap round the key.
+    /// Returns the entry that contains a key: its first key, last key and value. If there is none, it returns the gap around
+    /// the key.
     pub fn range_or_gap_at(&self, key: i64) -> (i64, i64, Option<&V>) {
         let mut first = i64::MIN;
         if let Some((start, (end, value))) = self.tree.range(..=key).next_back() {
@@ -292,17 +293,17 @@ impl<V: Eq + Clone> RangeMap<V> {
     }
 }
 
-/// Whether so few entries take less time to paint into a map of `len` entries than a pass over both.
+/// Returns whether to paint `few` entries into a map of `len` entries, rather than to make one pass over both.
 fn are_few(few: usize, len: usize) -> bool {
     if cfg!(as_crate) {
-        // (the crate's own measure)
+        // (the crate's rule)
         let descent = len.checked_ilog2().unwrap_or(0) as usize + 1;
         return few * descent < 10 * len + few;
     }
     few * 16 < len
 }
 
-/// Entries on their way into a map, ascending.
+/// A list of ascending entries, to build a map from.
 struct Gathered<V> {
     entries: Vec<(i64, (i64, Held<V>))>,
     len: u128,
@@ -313,7 +314,7 @@ impl<V: Eq> Gathered<V> {
         Gathered { entries: Vec::with_capacity(capacity), len: 0 }
     }
 
-    /// Puts an entry behind the others; one that touches the last, with an equal value, lengthens it.
+    /// Appends an entry. If it touches the last entry and has an equal value, it extends that entry instead.
     fn push(&mut self, start: i64, end: i64, value: V) {
         self.len += length(start, end);
         if let Some((_, last)) = self.entries.last_mut()
@@ -326,7 +327,7 @@ impl<V: Eq> Gathered<V> {
         }
     }
 
-    /// The map of the entries, built in one pass.
+    /// Builds the map of the entries in one pass.
     fn build(self) -> RangeMap<V> {
         RangeMap { tree: BTreeMap::from_iter(self.entries), len: self.len }
     }
@@ -339,7 +340,7 @@ mod tests {
 
     const KEYS: i64 = 40;
 
-    /// A value, or none, for each of a few keys.
+    /// The value of each of a few keys, or `None`.
     type Model = Vec<Option<u64>>;
 
     fn listed(model: &Model) -> Vec<(i64, i64, u64)> {
@@ -426,11 +427,11 @@ mod tests {
             let (mut b, second) = painted(&mut draw, more);
             let either = chosen(&first, &second, |a, b| b.or(a));
             assert_same(&a.union(&b), &either);
-            assert_same(&a.clone().union_by_value(b.clone()), &either);
+            assert_same(&a.clone().union_owned(b.clone()), &either);
             assert_same(&a.intersection(&b), &chosen(&first, &second, |a, b| a.and(b)));
             let rest = chosen(&first, &second, |a, b| if b.is_none() { a } else { None });
             assert_same(&a.difference(&b), &rest);
-            assert_same(&a.clone().difference_by_value(&b), &rest);
+            assert_same(&a.clone().difference_owned(&b), &rest);
             assert_same(&a.symmetric_difference(&b), &chosen(&first, &second, |a, b| a.xor(b)));
             let key = draw.below(KEYS as u64) as usize;
             let upper = a.clone().split_off(key as i64);

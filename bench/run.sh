@@ -1,7 +1,7 @@
 #!/usr/bin/env bash
 # Compares the time of the library with that of plain Rust (`ranges.rs`, `one_pass.rs`) and of Boost's interval_map, and prints tables in
-# Markdown. `as_crate.rs` is the Rust crate's way of a paint in plain Rust, and `streamed.rs` a union as a stream. `planned.rs` is the
-# library's way of a paint in plain Rust: nodes are inserted first, and an end is moved by a search.
+# Markdown. `as_crate.rs` and `streamed.rs` paint and unite in plain Rust as the Rust crate does. `planned.rs` paints in plain Rust as the
+# library does: it inserts nodes first, and makes another search to move an end.
 #
 #     bench/run.sh                    every work: some minutes on an idle machine, and 20 to 60 more for the proofs
 #     bench/run.sh --quick            few operations and rounds: a first impression, no result

@@ -42,7 +42,7 @@ for way in one_pass planned as_crate; do
     "${rust[@]}" --cfg "$way" --crate-name "$way" --crate-type staticlib -o "out/lib$way.a" plain.rs
 done
 
-# Makes a program of a source in C++ and some objects, and of all sides. Each side in Rust brings std.
+# Builds a program from a source in C++, some objects and all sides. Each side in Rust contains std, hence the multiple definitions.
 link() { # program, source, objects
     local program="$1"
     shift

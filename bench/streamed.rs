@@ -1,11 +1,11 @@
-//! The union of two lists of entries as a stream of pieces, for any number of lists: the ranges of all in the order of
-//! their starts, and those that are open at a key in a heap by their place, whose greatest has the value.
+//! The union of two lists of entries as a stream of pieces, in a way that fits any number of lists. The ranges of all lists
+//! come in the order of their starts. A heap has those that are open at a key, ordered by list: the last list has the value.
 use super::Gathered;
 use std::cmp::Ordering;
 use std::collections::BinaryHeap;
 use std::iter::Peekable;
 
-/// A range with its value, and the place of its list.
+/// A range with its value, and the position of its list.
 struct Placed<V> {
     place: usize,
     start: i64,
@@ -53,7 +53,7 @@ impl<V, L: Iterator<Item = (i64, i64, V)>, R: Iterator<Item = (i64, i64, V)>> It
 }
 
 impl<V: Eq + Clone> Gathered<V> {
-    /// Puts in the values of `right` where it has some, and else those of `left`.
+    /// Appends the union: the values of `right` at its keys, and those of `left` at the other keys.
     pub fn unite(
         &mut self,
         left: impl Iterator<Item = (i64, i64, V)>,

@@ -29,7 +29,7 @@ void check(std::int32_t status) {
     }
 }
 
-// Maps of `size` entries of 1 to 16 keys behind gaps of 1 to 16: one, and copies of it.
+// Equal maps of `size` entries of 1 to 16 keys, after gaps of 1 to 16 keys.
 class Maps {
 public:
     Maps(std::uint64_t size, std::size_t count) : maps(count) {
@@ -110,7 +110,7 @@ std::uint64_t get(std::uint64_t size, std::uint64_t count) {
 
 }  // namespace
 
-// Does a work and answers a checksum, which is not 0; 0 where there is no such work.
+// Runs a work and returns a checksum, which is not 0. It returns 0 if no work has the number.
 extern "C" std::uint64_t through_c_run(std::uint32_t work, std::uint64_t size, std::uint64_t count) {
     switch (work % checked) {
         case 0: return paint(work >= checked, size, count) | 1;

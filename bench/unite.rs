@@ -2,7 +2,7 @@
 use super::Gathered;
 
 impl<V: Eq + Clone> Gathered<V> {
-    /// Puts in the values of `right` where it has some, and else those of `left`.
+    /// Appends the union: the values of `right` at its keys, and those of `left` at the other keys.
     pub fn unite(
         &mut self,
         mut left: impl Iterator<Item = (i64, i64, V)>,
@@ -10,7 +10,7 @@ impl<V: Eq + Clone> Gathered<V> {
     ) {
         let mut a = left.next();
         for (b_start, b_end, b_value) in right {
-            // what lies before the right entry
+            // the left entries, or parts of them, before the right entry
             while let Some((start, end, value)) = a.take() {
                 if end < b_start {
                     self.push(start, end, value);
@@ -23,7 +23,7 @@ impl<V: Eq + Clone> Gathered<V> {
                     break;
                 }
             }
-            // what lies under it
+            // the left entries that the right entry covers
             while let Some((_, end, value)) = a.take_if(|(start, _, _)| *start <= b_end) {
                 if end > b_end {
                     a = Some((b_end + 1, end, value));

@@ -15,9 +15,9 @@ use crate::changes::{
 use crate::makes::{make, paint_one_by_one};
 use crate::many::union_of_many;
 use crate::prepared::Work;
-use crate::walks::{Way, walk, walk_by, walk_by_value};
+use crate::walks::{Way, walk, walk_by, walk_owned};
 use crate::whole::{
-    Combination, append, combine, combine_by_value, combine_wide, combine_wide_by_value, combined,
+    Combination, append, combine, combine_owned, combine_wide, combine_wide_owned, combined,
     split_off, within,
 };
 use std::alloc::{AllocError, Global};
@@ -72,7 +72,7 @@ fn on_all_keys(work: Work, number: u32) -> Option<Result<u64, AllocError>> {
         45 => Some(walk_by(work, Way::PairsFromBehind)),
         46 => Some(walk_by(work, Way::KeysFromBehind)),
         47 => Some(walk_by(work, Way::ValuesFromBehind)),
-        48 => Some(walk_by_value(work)),
+        48 => Some(walk_owned(work)),
         _ => on_maps(work, number),
     }
 }
@@ -82,17 +82,17 @@ fn on_maps(work: Work, number: u32) -> Option<Result<u64, AllocError>> {
     match number {
         5 => Some(split_off(work)),
         6 => Some(append(work)),
-        11 => Some(combine_by_value(work, Combination::Union)),
+        11 => Some(combine_owned(work, Combination::Union)),
         17 => Some(make(work, false)),
         18 => Some(make(work, true)),
         19 => Some(paint_one_by_one(work)),
         20 => Some(union_of_many(work)),
-        23 => Some(combine_by_value(work, Combination::Difference)),
-        29 => Some(combine_by_value(work, Combination::SymmetricDifference)),
+        23 => Some(combine_owned(work, Combination::Difference)),
+        29 => Some(combine_owned(work, Combination::SymmetricDifference)),
         35 => Some(combine_wide(work, Combination::Union)),
-        36 => Some(combine_by_value(work, Combination::UnionOfMany)),
+        36 => Some(combine_owned(work, Combination::UnionOfMany)),
         39 => Some(combine_wide(work, Combination::Difference)),
-        40 => Some(combine_wide_by_value(work, Combination::Difference)),
+        40 => Some(combine_wide_owned(work, Combination::Difference)),
         41 => Some(combine_wide(work, Combination::SymmetricDifference)),
         _ => {
             let (combination, other) = combined(number, work.size)?;

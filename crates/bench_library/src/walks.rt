@@ -73,7 +73,7 @@ pub fn walk_by(work: Work, way: Way) -> Result<u64, AllocError> {
 }
 
 /// Iterates over all keys of four owned maps.
-pub fn walk_by_value(work: Work) -> Result<u64, AllocError> {
+pub fn walk_owned(work: Work) -> Result<u64, AllocError> {
     let mut sum = 0;
     let mut left = work.count;
     for map in copies(work.alloc, &even(work, 1)?, 4)? {

@@ -175,7 +175,7 @@ pub fn combine_wide(work: Work, combination: Combination) -> Result<u64, AllocEr
 }
 
 /// Combines each of four owned maps with an owned wide map.
-pub fn combine_wide_by_value(work: Work, combination: Combination) -> Result<u64, AllocError> {
+pub fn combine_wide_owned(work: Work, combination: Combination) -> Result<u64, AllocError> {
     let mut others = copies(work.alloc, &wide(work)?, 4)?;
     let mut sum = 0;
     let mut left = work.count;
@@ -193,7 +193,7 @@ pub fn combine_wide_by_value(work: Work, combination: Combination) -> Result<u64
 }
 
 /// Combines an owned map with a thousand small owned maps, one after another.
-pub fn combine_by_value(work: Work, combination: Combination) -> Result<u64, AllocError> {
+pub fn combine_owned(work: Work, combination: Combination) -> Result<u64, AllocError> {
     let mut map = even(work, 1)?;
     let gap = (work.size / 100).saturating_mul(16);
     let mut others = Vec::new(work.alloc);
