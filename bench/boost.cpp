@@ -14,7 +14,7 @@ using Map = boost::icl::interval_map<std::int64_t, std::uint64_t, boost::icl::pa
                                      boost::icl::inplace_plus, boost::icl::inter_section, Interval>;
 
 constexpr std::uint64_t spacing = 17;
-constexpr std::uint32_t checked = 100;
+constexpr std::uint32_t checked = 200;
 
 struct Draw {
     std::uint64_t state;

@@ -37,7 +37,7 @@ std::uint64_t through_c_run(std::uint32_t work, std::uint64_t size, std::uint64_
 
 namespace {
 
-constexpr std::uint32_t checked = 100;
+constexpr std::uint32_t checked = 200;
 
 using Run = std::uint64_t (*)(std::uint32_t, std::uint64_t, std::uint64_t);
 
@@ -49,7 +49,7 @@ constexpr std::size_t library = 1;
 constexpr std::size_t as_crate = 2;
 
 // Added to a work's number if the library does it through its calls for C.
-constexpr std::uint32_t by_c = 50;
+constexpr std::uint32_t by_c = 100;
 
 std::uint64_t run(std::size_t side, std::uint32_t work, std::uint64_t size, std::uint64_t count) {
     if (work % checked < by_c) {

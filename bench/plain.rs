@@ -1,4 +1,5 @@
 //! The works of `driver.cpp` over the plain Rust map, as a static library.
+mod bulk;
 #[cfg(as_crate)]
 mod by_keys;
 mod draw;
@@ -13,7 +14,7 @@ type Map = RangeMap<u64>;
 const SPACING: u64 = 17;
 
 /// Added to a work's number to include the final entries in the checksum.
-const CHECKED: u32 = 100;
+const CHECKED: u32 = 200;
 
 /// Returns a map of `size` entries of 1 to 16 keys, or of `keys` keys, after gaps of 1 to `gap` keys.
 fn prepared(seed: u64, size: u64, gap: u64, keys: u64) -> Map {
@@ -350,7 +351,7 @@ fn union_of_many(check: bool, maps: u64, count: u64) -> u64 {
 pub extern "C" fn plain_run(work: u32, size: u64, count: u64) -> u64 {
     let check = work >= CHECKED;
     // (only the works that the Rust crate does in another way)
-    if cfg!(as_crate) && !matches!(work % CHECKED, 0..=3 | 6..=11 | 19 | 26 | 27 | 37 | 38 | 42..=48) {
+    if cfg!(as_crate) && !matches!(work % CHECKED, 0..=3 | 6..=11 | 19 | 26 | 27 | 37 | 38 | 42..=50) {
         return 0;
     }
     let sum = match work % CHECKED {
@@ -393,6 +394,11 @@ pub extern "C" fn plain_run(work: u32, size: u64, count: u64) -> u64 {
         number @ 42..=47 => by_keys::walk(number - 42, size, count),
         #[cfg(as_crate)]
         48 => by_keys::walk_owned(size, count),
+        49 => bulk::paint_over_ten(check, size, count),
+        50 => bulk::paint_over_all(check, size, count),
+        51 => bulk::halve_values(check, size, count),
+        53 => bulk::combine_three(check, size, count, |a, map, b| a.union(map).union_owned(b.clone())),
+        54 => bulk::combine_three(check, size, count, |a, map, b| a.symmetric_difference(map).symmetric_difference(b)),
         _ => return 0,
     };
     sum | 1

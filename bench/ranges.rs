@@ -277,6 +277,13 @@ impl<V: Eq + Clone> RangeMap<V> {
         }
     }
 
+    /// Returns the map with the same keys, each with the result of a closure at its entry's value. Touching entries with equal
+    /// results become one entry.
+    pub fn transform_values<W: Eq + Clone>(&self, mut f: impl FnMut(&V) -> W) -> RangeMap<W> {
+        let entries = self.entries().map(|(start, end, value)| (start, end, f(value)));
+        RangeMap::from_ascending(self.tree.len(), entries)
+    }
+
     /// Returns the entry that contains a key: its first key, last key and value. If there is none, it returns the gap around
     /// the key.
     pub fn range_or_gap_at(&self, key: i64) -> (i64, i64, Option<&V>) {
@@ -433,6 +440,8 @@ mod tests {
             assert_same(&a.difference(&b), &rest);
             assert_same(&a.clone().difference_owned(&b), &rest);
             assert_same(&a.symmetric_difference(&b), &chosen(&first, &second, |a, b| a.xor(b)));
+            let halves: Model = first.iter().map(|value| value.map(|value| value / 2)).collect();
+            assert_same(&a.transform_values(|value| value / 2), &halves);
             let key = draw.below(KEYS as u64) as usize;
             let upper = a.clone().split_off(key as i64);
             let (mut below, mut above) = (first.clone(), first.clone());

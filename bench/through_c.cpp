@@ -8,7 +8,7 @@
 namespace {
 
 constexpr std::uint64_t spacing = 17;
-constexpr std::uint32_t checked = 100;
+constexpr std::uint32_t checked = 200;
 
 struct Draw {
     std::uint64_t state;

@@ -91,6 +91,36 @@ pub fn clumps(work: Work) -> Result<u64, AllocError> {
     Ok(checksum(work.check, 0, &map))
 }
 
+/// Paints ranges over about ten entries each, from the least key up.
+pub fn paint_over_ten(work: Work) -> Result<u64, AllocError> {
+    let mut map = even(work, 1)?;
+    let mut draw = Draw::new(2);
+    let mut lo = 0i64;
+    for _ in 0..work.count {
+        let above = lo.wrapping_add(spread(10).cast_signed());
+        let _ = map.ranges_insert(lo..above, draw.below(4))?;
+        lo = above;
+    }
+    Ok(checksum(work.check, 0, &map))
+}
+
+/// Paints all keys of four maps, each in one call, with a value that no entry has.
+pub fn paint_over_all(work: Work) -> Result<u64, AllocError> {
+    let map = even(work, 1)?;
+    let above = spread(work.size).saturating_mul(2).cast_signed();
+    let mut sum = 0;
+    let mut left = work.count;
+    for map in copies(work.alloc, &map, 4)? {
+        let mut map = map;
+        if left > 0 {
+            left -= 1;
+            let _ = map.ranges_insert(0..above, 4)?;
+        }
+        sum = checksum(work.check, sum, &map);
+    }
+    Ok(sum)
+}
+
 /// Fills ranges with about `size` gaps each, from the least key up, in a map of `ENTRIES` entries.
 pub fn fill(work: Work) -> Result<u64, AllocError> {
     let mut map = prepared(work.alloc, 1, ENTRIES, 16, 0)?;

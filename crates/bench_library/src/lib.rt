@@ -5,25 +5,28 @@ mod changes;
 mod draw;
 mod makes;
 mod many;
+mod parts;
 mod prepared;
 mod walks;
 mod whole;
 
 use crate::changes::{
-    Change, change_maps, clumps, fill, get, pop_first, pop_last, retain, retain_below,
+    Change, change_maps, clumps, fill, get, paint_over_all, paint_over_ten, pop_first, pop_last,
+    retain, retain_below,
 };
 use crate::makes::{make, paint_one_by_one};
-use crate::many::union_of_many;
+use crate::many::{OfThree, combine_three, union_of_many};
+use crate::parts::{first_entries, first_pairs, within};
 use crate::prepared::Work;
 use crate::walks::{Way, walk, walk_by, walk_owned};
 use crate::whole::{
     Combination, append, combine, combine_owned, combine_wide, combine_wide_owned, combined,
-    split_off, within,
+    halve_values, split_off,
 };
 use std::alloc::{AllocError, Global};
 
 /// Added to a work's number to include the final entries in the checksum.
-const CHECKED: u32 = 100;
+const CHECKED: u32 = 200;
 
 /// Runs a work and returns a checksum, which is not 0. It returns 0 if an allocation fails or no work has the number.
 #[unsafe(no_mangle)]
@@ -57,6 +60,10 @@ fn on_keys(work: Work, number: u32) -> Option<Result<u64, AllocError>> {
         27 => Some(retain(work)),
         37 => Some(retain_below(work, 2)),
         38 => Some(retain_below(work, 0)),
+        49 => Some(paint_over_ten(work)),
+        50 => Some(paint_over_all(work)),
+        55 => Some(first_pairs(work)),
+        56 => Some(first_entries(work)),
         _ => on_all_keys(work, number),
     }
 }
@@ -94,6 +101,9 @@ fn on_maps(work: Work, number: u32) -> Option<Result<u64, AllocError>> {
         39 => Some(combine_wide(work, Combination::Difference)),
         40 => Some(combine_wide_owned(work, Combination::Difference)),
         41 => Some(combine_wide(work, Combination::SymmetricDifference)),
+        51 => Some(halve_values(work)),
+        53 => Some(combine_three(work, OfThree::Union)),
+        54 => Some(combine_three(work, OfThree::SymmetricDifference)),
         _ => {
             let (combination, other) = combined(number, work.size)?;
             Some(combine(work, combination, other))

@@ -1,6 +1,5 @@
 //! Works on whole maps.
-use crate::prepared::{Map, Work, checksum, copies, even, mix, prepared, spread};
-use range_map_blaze::names_a_key;
+use crate::prepared::{Map, Work, checksum, copies, even, prepared, spread};
 use range_map_multi::{MultiwayRangeMapBlaze, MultiwayRangeMapBlazeRef};
 use std::alloc::{AllocError, Global};
 
@@ -17,6 +16,8 @@ pub enum Combination {
     InnerJoin,
     /// The sums of the values at the keys of the first map, where the second map may have none.
     LeftJoin,
+    /// The sums of the values at the keys of at least one map, where the other map may have none.
+    FullJoin,
     /// The union of the two maps, by the operation for many maps.
     UnionOfMany,
     /// The intersection of the two maps, by the operation for many maps.
@@ -41,6 +42,7 @@ pub fn combined(number: u32, size: u64) -> Option<(Combination, u64)> {
         32 => Some((Combination::LeftJoin, 100)),
         33 => Some((Combination::UnionOfMany, 100)),
         34 => Some((Combination::IntersectionOfMany, 100)),
+        52 => Some((Combination::FullJoin, size)),
         _ => None,
     }
 }
@@ -58,22 +60,6 @@ pub fn split_off(work: Work) -> Result<u64, AllocError> {
             sum = checksum(work.check, sum, &map.split_off(middle)?);
         }
         sum = checksum(work.check, sum, &map);
-    }
-    Ok(sum)
-}
-
-/// Calls `range` with the lower half of the keys of a map, repeatedly, and takes the first pair of each result.
-pub fn within(work: Work) -> Result<u64, AllocError> {
-    let map = even(work, 1)?;
-    let lower = 0..=(spread(work.size) / 2).cast_signed();
-    let mut sum = 0;
-    if !names_a_key(&lower) {
-        return Ok(sum);
-    }
-    for _ in 0..work.count {
-        if let Some(Ok((key, value))) = map.range(lower.clone()?)?.next() {
-            sum = mix(mix(sum, key.cast_unsigned()), value);
-        }
     }
     Ok(sum)
 }
@@ -97,6 +83,17 @@ pub fn append(work: Work) -> Result<u64, AllocError> {
     Ok(sum)
 }
 
+/// Builds the map of half the values, repeatedly.
+pub fn halve_values(work: Work) -> Result<u64, AllocError> {
+    let map = even(work, 1)?;
+    let mut sum = 0;
+    for _ in 0..work.count {
+        let halves = map.transform_values(|value| *value / 2)?;
+        sum = checksum(work.check, sum, &halves);
+    }
+    Ok(sum)
+}
+
 impl Combination {
     /// Combines two borrowed maps.
     fn of(self, alloc: Global, map: &Map, other: &Map) -> Result<Map, AllocError> {
@@ -116,6 +113,10 @@ impl Combination {
                     |left, right| left.wrapping_add(right.copied().unwrap_or(0)),
                 )
             }
+            Combination::FullJoin => map.full_join(other, |left, right| {
+                let left = left.copied().unwrap_or(0);
+                left.wrapping_add(right.copied().unwrap_or(0))
+            }),
             Combination::UnionOfMany => [map, other].union(alloc),
             Combination::IntersectionOfMany => [map, other].intersection(alloc),
         }
@@ -130,9 +131,10 @@ impl Combination {
             Combination::Difference => map - other,
             Combination::SymmetricDifference => map ^ other,
             Combination::UnionOfMany => union_of_two(alloc, map, other),
-            Combination::InnerJoin | Combination::LeftJoin | Combination::IntersectionOfMany => {
-                self.of(alloc, &map, &other)
-            }
+            Combination::InnerJoin
+            | Combination::LeftJoin
+            | Combination::FullJoin
+            | Combination::IntersectionOfMany => self.of(alloc, &map, &other),
         }
     }
 }
