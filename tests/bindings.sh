@@ -5,7 +5,7 @@
 #   (tests/random_calls.c), both under valgrind too, or under sanitizers if there is no valgrind;
 # - four threads (tests/threads.c), under helgrind and DRD too;
 # - the C++ header (tests/bindings.cpp), the package (tests/package.sh), and the errors of build.sh;
-# - the Python module (tests/bindings.py) and the Rust crate, with the examples of their docs;
+# - the Python module (tests/python) and the Rust crate, with the examples of their docs;
 # - the example in each language, on random tables, against bindings/examples/expected.py (tests/examples.py);
 # - the program of README.md.
 # A test whose tool is missing is left out, and named. The last line is 'N passed, M failed'.
@@ -143,7 +143,7 @@ if ! python="$(tests/bindings_python.sh)"; then
 else
     rm -f bindings/python/range_map/__init__.*.so # (it may have another library linked in, which is no older)
     builds "the Python module" make --no-print-directory -s -C bindings python "PYTHON=$python"
-    counts "the Python module, tested" "$python" tests/bindings.py
+    counts "the Python module, tested" "$python" tests/python
     if "$python" -c 'import wheel, venv, ensurepip' 2>/dev/null; then
         # Installed into an environment of its own, and used without the toolchain in the path.
         mkdir "$work/wheel"

@@ -1,9 +1,5 @@
 # The map that changes.
 
-cdef enum Operation:
-    UNION, INTERSECTION, DIFFERENCE, SYMMETRIC_DIFFERENCE, REPLACEMENT
-
-
 cdef int check(int32_t status) except -1:
     if status != DONE:
         raise MemoryError
@@ -382,7 +378,7 @@ cdef class RangeMap(Lookups):
         cdef list values
         cdef int64_t lo, hi
         if isinstance(entries, Lookups):
-            self.combine((<Lookups>entries).rows(INT64_MIN, INT64_MAX), UNION)
+            combine(self, (<Lookups>entries).rows(INT64_MIN, INT64_MAX), UNION)
             return
         rows, values = Rows(), []
         for start, stop, value in entries:
@@ -456,110 +452,8 @@ cdef class RangeMap(Lookups):
             olds.append(missing)
         for old in olds:
             news.append(function(old))
-            self.check_changes(changes)
-        self.set_pieces(pieces, news, missing, changes)
-
-    cdef int check_changes(self, uint64_t changes) except -1:
-        if self.changes != changes:
-            raise RuntimeError("the map changed during the call")
-        return 0
-
-    cdef int set_pieces(self, Rows pieces, list values, object missing, uint64_t changes) except -1:
-        """Sets the keys of each piece, or removes them where the value is `missing`, if the map has not changed since."""
-        cdef c_map out
-        cdef c_bool ignored = False
-        cdef Py_ssize_t row
-        cdef int32_t status = DONE
-        cdef Rows changed
-        memset(&out, 0, sizeof(out))
-        self.values.pins += 1
-        try:
-            for row in range(pieces.length):
-                value = values[row]
-                pieces.number[row] = UINT64_MAX if value is missing else self.values.number_of(value)
-            changed = Rows()  # (the garbage collector may run Python code here)
-            self.check_changes(changes)
-            self.push_changed(pieces, changed)
-            if changed.length == 1:
-                if changed.number[0] == UINT64_MAX:
-                    status = range_map_remove_range_unchecked(&self.map, changed.lo[0], changed.hi[0], &ignored)
-                else:
-                    status = range_map_paint_unchecked(&self.map, changed.lo[0], changed.hi[0], changed.number[0], &ignored)
-                self.changes += status == DONE
-            elif changed.length:
-                status = range_map_copy_unchecked(&self.map, &out)
-                for row in range(changed.length):
-                    if status == DONE and changed.number[row] == UINT64_MAX:
-                        status = range_map_remove_range_unchecked(&out, changed.lo[row], changed.hi[row], &ignored)
-                    elif status == DONE:
-                        status = range_map_paint_unchecked(&out, changed.lo[row], changed.hi[row], changed.number[row], &ignored)
-                if status == DONE:
-                    self.replace(&out)
-                else:
-                    range_map_free_unchecked(&out)
-        finally:
-            self.values.pins -= 1
-            self.drop_unused()
-        return check(status)
-
-    cdef int push_changed(self, Rows pieces, Rows changed) except -1:
-        """Pushes the pieces whose number is not what the map has there, UINT64_MAX for none. In a run of pieces with one number, these
-        are one row, from the first to the last of them."""
-        cdef Py_ssize_t row
-        cdef uint64_t old
-        cdef bint had, is_pushed = False
-        for row in range(pieces.length):
-            if row and pieces.number[row] != pieces.number[row - 1]:
-                is_pushed = False
-            had = self.find(pieces.lo[row], &old)
-            if old == pieces.number[row] if had else pieces.number[row] == UINT64_MAX:
-                continue
-            if is_pushed:
-                changed.hi[changed.length - 1] = pieces.hi[row]
-            else:
-                changed.push(pieces.lo[row], pieces.hi[row], pieces.number[row])
-            is_pushed = True
-        return 0
-
-    cdef int combine(self, Rows rows, Operation operation) except -1:
-        """Changes this map by the rows of another one, which no other object has: all of it, or nothing if an exception is raised."""
-        cdef c_map right, out
-        cdef Py_ssize_t row, number
-        cdef int32_t status
-        cdef Rows numbers = Rows()
-        memset(&right, 0, sizeof(right))
-        memset(&out, 0, sizeof(out))
-        self.values.pins += 1
-        try:
-            if operation != DIFFERENCE:
-                for number in range(size_of(rows.values.at)):
-                    value = rows.values.value_of(number)
-                    row = self.values.find(value, rows.values.hashes[number])
-                    numbers.push(0, 0, row if row >= 0 else self.values.add(value, rows.values.hashes[number]))
-                for row in range(rows.length):
-                    rows.number[row] = numbers.number[rows.number[row]]
-            status = rows.into_map(&right)
-            if status == DONE and operation == REPLACEMENT:
-                out, right = right, out
-            elif status == DONE and operation == SYMMETRIC_DIFFERENCE:
-                status = range_map_symmetric_difference_unchecked(&self.map, &right, &out)
-            elif status == DONE:
-                status = range_map_copy_unchecked(&self.map, &out)
-            if status == DONE and operation == UNION:
-                status = range_map_extend_unchecked(&out, &right)
-            elif status == DONE and operation == INTERSECTION:
-                status = range_map_intersect_unchecked(&out, &right)
-            elif status == DONE and operation == DIFFERENCE:
-                status = range_map_subtract_unchecked(&out, &right)
-            range_map_free_unchecked(&right)
-            if status == DONE:
-                self.replace(&out)
-            else:
-                range_map_free_unchecked(&out)
-        finally:
-            self.values.pins -= 1
-            self.drop_unused()
-        return check(status)
+            check_changes(self, changes)
+        set_pieces(self, pieces, news, missing, changes)
 
     def __or__(self, other):
         return combined(self, other, UNION)
@@ -608,21 +502,5 @@ cdef class RangeMap(Lookups):
         return found if is_found else None
 
     def __setstate__(self, state):
-        self.combine(rows_of_state(state), REPLACEMENT)
+        combine(self, rows_of_state(state), REPLACEMENT)
         give_attributes(self, state[4])
-
-
-cdef object combined(object left, object right, Operation operation):
-    cdef RangeMap new
-    if not isinstance(left, RangeMap) or not isinstance(right, Lookups):
-        return NotImplemented
-    new = (<RangeMap>left).copy()
-    new.combine((<Lookups>right).rows(INT64_MIN, INT64_MAX), operation)
-    return new
-
-
-cdef object combined_in_place(RangeMap left, object right, Operation operation):
-    if not isinstance(right, Lookups):
-        return NotImplemented
-    left.combine((<Lookups>right).rows(INT64_MIN, INT64_MAX), operation)
-    return left

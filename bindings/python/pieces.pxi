@@ -1,0 +1,66 @@
+# Changes of the pieces of a range: its entries and gaps, cut to it, each with a new value or with none.
+
+
+cdef int check_changes(RangeMap map, uint64_t changes) except -1:
+    if map.changes != changes:
+        raise RuntimeError("the map changed during the call")
+    return 0
+
+
+cdef int set_pieces(RangeMap map, Rows pieces, list values, object missing, uint64_t changes) except -1:
+    """Sets the keys of each piece, or removes them where the value is `missing`, if the map has not changed since."""
+    cdef c_map out
+    cdef c_bool ignored = False
+    cdef Py_ssize_t row
+    cdef int32_t status = DONE
+    cdef Rows changed
+    memset(&out, 0, sizeof(out))
+    map.values.pins += 1
+    try:
+        for row in range(pieces.length):
+            value = values[row]
+            pieces.number[row] = UINT64_MAX if value is missing else map.values.number_of(value)
+        changed = Rows()  # (the garbage collector may run Python code here)
+        check_changes(map, changes)
+        push_changed(map, pieces, changed)
+        if changed.length == 1:
+            if changed.number[0] == UINT64_MAX:
+                status = range_map_remove_range_unchecked(&map.map, changed.lo[0], changed.hi[0], &ignored)
+            else:
+                status = range_map_paint_unchecked(&map.map, changed.lo[0], changed.hi[0], changed.number[0], &ignored)
+            map.changes += status == DONE
+        elif changed.length:
+            status = range_map_copy_unchecked(&map.map, &out)
+            for row in range(changed.length):
+                if status == DONE and changed.number[row] == UINT64_MAX:
+                    status = range_map_remove_range_unchecked(&out, changed.lo[row], changed.hi[row], &ignored)
+                elif status == DONE:
+                    status = range_map_paint_unchecked(&out, changed.lo[row], changed.hi[row], changed.number[row], &ignored)
+            if status == DONE:
+                map.replace(&out)
+            else:
+                range_map_free_unchecked(&out)
+    finally:
+        map.values.pins -= 1
+        map.drop_unused()
+    return check(status)
+
+
+cdef int push_changed(RangeMap map, Rows pieces, Rows changed) except -1:
+    """Pushes the pieces whose number is not what the map has there, UINT64_MAX for none. In a run of pieces with one number, these
+    are one row, from the first to the last of them."""
+    cdef Py_ssize_t row
+    cdef uint64_t old
+    cdef bint had, is_pushed = False
+    for row in range(pieces.length):
+        if row and pieces.number[row] != pieces.number[row - 1]:
+            is_pushed = False
+        had = map.find(pieces.lo[row], &old)
+        if old == pieces.number[row] if had else pieces.number[row] == UINT64_MAX:
+            continue
+        if is_pushed:
+            changed.hi[changed.length - 1] = pieces.hi[row]
+        else:
+            changed.push(pieces.lo[row], pieces.hi[row], pieces.number[row])
+        is_pushed = True
+    return 0

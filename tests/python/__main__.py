@@ -1,0 +1,42 @@
+"""Compares the Python module with plain dictionaries: rounds of 100 random calls on small keys, also at both ends of the keys, with
+equal values of several types. Then come values whose __hash__, __eq__ and __del__ raise or change the map, and each allocation failing
+in turn. The last parts are memory that stays flat, the garbage collector, threads, pickles, arrays, types and the examples of
+docstrings. A part whose tool is missing is left out, and named. The last line is 'N passed, M failed'.
+
+    python3 tests/python [ROUNDS [SEED]] [CASE ..]        CASE: one of CASES, in place of all of them
+"""
+import sys
+import time
+
+from cases import arrays, changed_while_iterated, many_entries, printed, subclasses, threads, updated_ranges, values_of_all_kinds
+from interface import examples, types
+from memory import collected, memory_is_flat, refused, refused_memory, sanitized, values_are_dropped
+from rounds import rounds
+from wild import wild_values
+
+CASES = [values_of_all_kinds, changed_while_iterated, updated_ranges, wild_values, values_are_dropped, collected, memory_is_flat, subclasses,
+         arrays, many_entries, threads, printed, refused_memory, sanitized, examples, types]
+
+
+def main():
+    if sys.argv[1:] == ["refused"]:
+        refused()
+    named = [case for case in CASES if case.__name__ in sys.argv[1:]]
+    numbers = [int(word) for word in sys.argv[1:] if word.isdigit()]
+    count, seed = (numbers + [0 if named else 400, 64][len(numbers):])[:2]
+    failed = rounds(count, seed)
+    passed = count - failed
+    for case in named or CASES:
+        started = time.process_time()
+        try:
+            passed += case() or 1
+        except Exception as failure:
+            failed += 1
+            print(f"{case.__name__}: {failure!r}")
+        if named:
+            print(f"{case.__name__}: {time.process_time() - started:.1f} s")
+    print(f"{passed} passed, {failed} failed")
+    sys.exit(failed != 0)
+
+
+main()
