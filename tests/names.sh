@@ -1,7 +1,7 @@
 #!/usr/bin/env bash
 # Each public call is named wherever calls are named, and no other is. The code says which calls there are:
 # - the calls of the map, of sets, of tables and of many maps, and the functions that `range_map_blaze` and `range_map_cli` export:
-#   docs/CALLS.md has them; a program of the gate calls each of the map; tests/refusals.txt or tests/refused_calls.txt has each that may
+#   docs/CALLS.md has them; a program or test calls each of the map; tests/refusals.txt or tests/refused_calls.txt has each that may
 #   fail to allocate;
 # - the words of the lines of crates/script: its stdin, tests/bad_lines.txt, tests/refusals.txt and docs/SCRIPT.md have them;
 # - the functions of bindings/range_map.h: crates/range_map_c and bindings/rust have those that the library exports, docs/CALLS.md and the
@@ -99,8 +99,8 @@ has_no_other tests/refusals.txt "$swept" "$words"$'\n'"$(sed 's/^/into_/' <<<"$w
 
 # ---- Calls that a program makes, and calls that may fail to allocate
 by_lines="$(sed -E 's/^many_//; s/^\|$/bitor/; s/^&$/bitand/; s/^-$/sub/; s/^\^$/bitxor/; s/^!$/not/; s/^==$/eq/; s/^list$/fmt/; s/^hashes_as$/hash/' <<<"$swept")"
-made="$(grep -rhoE '[.:][a-z_0-9]+' crates/script/src crates/check_*/src | tr -d '.:')"
-are_in "$map" "$made"$'\n'"$by_lines" "no program of the gate calls NAME"
+made="$(grep -rhoE '[.:][a-z_0-9]+' crates/{script,check_refused_calls}/src tests/{examples,library,crate_examples} | tr -d '.:')"
+are_in "$map" "$made"$'\n'"$by_lines" "no program or test of the gate calls NAME"
 refused="$(sed -E 's/^[?][0-9]* //; s/^[A-Z][A-Za-z]*:://; s/^([a-z_]*).*/\1/' tests/refused_calls.txt)"
 are_in "$(calls_of '(Into)?RangeMapBlaze' fallible range_map_blaze && calls_of 'Multiway[A-Za-z]*' fallible range_map_multi)" "$by_lines"$'\n'"$refused" \
     "neither tests/refusals.txt nor tests/refused_calls.txt has NAME"
@@ -142,5 +142,5 @@ has_each tests/bindings.cpp "$(in_column C++)" "$(grep -oE '[a-z_]+\(' tests/bin
 has_each bindings/rust/src "$(in_column Rust)" "$(grep -rhoE '\bfn [a-z_]+' bindings/rust/src | sed 's/fn //')"
 has_each bindings/rust/tests "$(in_column Rust)" "$(grep -rhoE '[.:][a-z_]+' bindings/rust/tests | tr -d '.:')"
 has_each bindings/python/range_map/__init__.pyi "$(in_column Python)" "$(grep -oE 'def [a-z_]+' bindings/python/range_map/__init__.pyi | sed 's/def //')"
-has_each tests/bindings.py "$(in_column Python)" "$(grep -oE '\.[a-z_]+' tests/bindings.py | tr -d '.')"
+has_each tests/python "$(in_column Python)" "$(grep -hoE '\.[a-z_]+' tests/python/*.py | tr -d '.')"
 tell

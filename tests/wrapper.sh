@@ -143,13 +143,13 @@ if [ "$with_proof" ]; then
     printf 'echo "1 passed, 0 failed"\n' | tee "$work/tree/tests/"{wrapper,errors,style}.sh >"$work/tree/tests/tasks.sh"
     echo 0 >"$work/status"
     echo expected >"$work/output"
-    for name in doc_examples crate_examples; do cp "$work/tree/tests/tasks.sh" "$work/tree/tests/$name.sh"; done
+    for name in doc_examples unproved; do cp "$work/tree/tests/tasks.sh" "$work/tree/tests/$name.sh"; done
     status=0
     printed="$(stand_in "$work/tree/test" 2>"$work/told")" || status=$?
     told="$(cat "$work/told")"
     judge 0 "$status" "tests without a proof: status"
     judge '' "$(grep -v '^[1-9][0-9]* passed, 0 failed$' <<<"$printed" || true)" "tests without a proof: output"
-    tells "tests without a proof" "rangemap: 1 passed" "demo_ports: 2 passed" "check_library_tests: 17 passed" "wrapper: 1 passed"
+    tells "tests without a proof" "rangemap: 1 passed" "demo_ports: 2 passed" "library: 1 passed" "wrapper: 1 passed"
     echo differs >"$work/output"
     status=0
     stand_in "$work/tree/test" >"$work/printed" 2>"$work/told" || status=$?
@@ -187,7 +187,7 @@ mkdir "$work/other/crates/first_map"
 cp -r "$top/crates/first_map/src" "$work/other/crates/first_map/"
 run "a second copy" 0 '' "$work/tree/tools/vendor" "$work/other"
 judge "$(grep -E '^(blaze_(int|entries|table|streams|iters)|range_map_blaze|first_map):' "$top/crates.txt")" "$(cat "$work/other/crates.txt")" "the lines of the copy"
-judge '' "$(cd "$work/other" && find . -name out -o -name must-fail)" "what is not copied"
+judge '' "$(cd "$work/other" && find . -name out -o -name wrong-bodies)" "what is not copied"
 run "first_map over the copy" 0 "$(cat "$top/crates/first_map/stdout")" env -C "$work/other/crates/first_map" rt try
 run "no such folder" 2 '' "$work/tree/tools/vendor" "$work/nowhere"
 run "an answer without a proof" 2 "$bad_answers" "$work/tree/rangemap" <"$work/bad"
