@@ -19,7 +19,7 @@ declare -A needs=(
 names=("$@")
 if [ "$#" = 0 ]; then names=(examples crate_examples library); fi
 
-tar --exclude=out --exclude=wrong-bodies -cf - crates crates.txt HANDLES | tar -C "$work" -xf -
+tar --exclude=out --exclude=must-fail -cf - crates crates.txt HANDLES | tar -C "$work" -xf -
 for name in "${names[@]}"; do
     crate="check_$name"
     echo "$crate: ${needs[$name]}" >>"$work/crates.txt"

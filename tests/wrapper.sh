@@ -187,7 +187,7 @@ mkdir "$work/other/crates/first_map"
 cp -r "$top/crates/first_map/src" "$work/other/crates/first_map/"
 run "a second copy" 0 '' "$work/tree/tools/vendor" "$work/other"
 judge "$(grep -E '^(blaze_(int|entries|table|streams|iters)|range_map_blaze|first_map):' "$top/crates.txt")" "$(cat "$work/other/crates.txt")" "the lines of the copy"
-judge '' "$(cd "$work/other" && find . -name out -o -name wrong-bodies)" "what is not copied"
+judge '' "$(cd "$work/other" && find . -name out -o -name must-fail)" "what is not copied"
 run "first_map over the copy" 0 "$(cat "$top/crates/first_map/stdout")" env -C "$work/other/crates/first_map" rt try
 run "no such folder" 2 '' "$work/tree/tools/vendor" "$work/nowhere"
 run "an answer without a proof" 2 "$bad_answers" "$work/tree/rangemap" <"$work/bad"

@@ -44,7 +44,7 @@ made_of() (
     if command -v rt >/dev/null; then rt version </dev/null; else head -n 1 "$(note_of "$1")" 2>/dev/null || echo "no toolchain"; fi
     for crate in "${crates[@]}"; do echo "$crate:${stands_on[$crate]}"; done
     cd "$root/crates" || exit
-    find "${crates[@]}" -name out -prune -o -name wrong-bodies -prune -o -type f \( -name '*.rt' -o -name '*.antt' \) -print0 |
+    find "${crates[@]}" -name out -prune -o -name must-fail -prune -o -type f \( -name '*.rt' -o -name '*.antt' \) -print0 |
         LC_ALL=C sort -z | xargs -0 sha256sum
 )
 
