@@ -5,7 +5,7 @@ use Rattle.blaze_entries.specs.Starts.{start_at, with_entry, without}
 use Rattle.blaze_table.specs.Canonical.{AreKeys, IsCanonical, IsRunStart, HasStart}
 use Rattle.blaze_table.specs.Count.{keys_in}
 use Rattle.blaze_table.specs.Entries.{Entry, entry, at, SameOption, SameContent}
-use Rattle.blaze_table.specs.Filled.{filled_content, IsFirstGap, IsKeptIn}
+use Rattle.blaze_table.specs.Filled.{filled_content, AreStartsKept, IsFirstGap, IsKeptIn}
 use Rattle.blaze_table.specs.Gap.{IsClearFrom}
 use Rattle.blaze_table.specs.Table.{IsTable}
 
@@ -113,3 +113,12 @@ pub record IsJoinedAt {V : Type 0} (eq : V → V → Bool) (low high : ℤ) (s :
   pub same : SameContent eq new old
   pub starts : (k : ℤ) → HasStart new k → HasStart old k × (k ≡ s → ⊥)
   pub kept : (e : Entry V) → Contains old e → (e.lo ≡ s → ⊥) → IsKeptIn new e
+
+-- All entries at joints were joined with the previous ones. The list is canonical. The content and the number of keys
+-- are the same, and an entry that starts a run of the content keeps its very value.
+pub record AreAllJoined {V : Type 0} (eq : V → V → Bool) (low high : ℤ) (old new : List (Entry V)) : Type 0 where
+  pub canonical : IsCanonical eq new
+  pub are_keys : AreKeys low high new
+  pub count : keys_in new ≡ keys_in old
+  pub same : SameContent eq new old
+  pub kept : AreStartsKept eq (at old) old new

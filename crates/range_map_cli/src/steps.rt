@@ -178,8 +178,8 @@ pub fn run<T: Integer, V: Eq + Clone>(
         map.old.entries map.new.entries) }
     ensures shortest { IsShortest V.eq map.new.entries }
     ensures counted { All IsEdit steps.items
-        → OnOk result (IsCountedRun (length steps.items) map.old map.new) }
-    ensures err_counted { All IsEdit steps.items → OnErr result (IsCounted map.old map.new) }
+        → OnOk result (IsCountedRun (length steps.items) map.old map.new)
+        × OnErr result (IsCounted map.old map.new) }
     ensures few { All IsEdit steps.items → map.old.entries ≡ []
         → OnOk result (length map.new.entries ≤ 2 * length steps.items - 1) }
     ensures few_filled { All IsPaintOrFill steps.items → map.old.entries ≡ []

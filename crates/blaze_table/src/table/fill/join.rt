@@ -1,10 +1,8 @@
 //! Joins of touching entries with equal values.
-ghost use Rattle.std.specs.Prelude.{◌≡◌, map};
-ghost use Rattle.blaze_table.specs.Canonical.{AreKeys, IsCanonical};
-ghost use Rattle.blaze_table.specs.Count.{keys_in};
-ghost use Rattle.blaze_table.specs.Entries.{at, SameContent};
-ghost use Rattle.blaze_table.specs.Filled.{AreStartsKept};
-ghost use Rattle.blaze_table.specs.Filling.{IsJoinedAt, IsJoinedBut, IsJoint, IsOrdered};
+ghost use Rattle.std.specs.Prelude.{map};
+ghost use Rattle.blaze_table.specs.Canonical.{AreKeys};
+ghost use Rattle.blaze_table.specs.Entries.{at};
+ghost use Rattle.blaze_table.specs.Filling.{AreAllJoined, IsJoinedAt, IsJoinedBut, IsJoint, IsOrdered};
 ghost use Rattle.blaze_table.specs.Work.{IsCounted};
 
 use blaze_entries::Counted;
@@ -35,12 +33,8 @@ fn join<T: Integer, V: Eq + Drop>(entries: &mut Counted<T, V>, key: T)
 pub fn join_all<T: Integer, V: Eq + Drop>(entries: &mut Counted<T, V>, join_keys: Vec<T>)
     requires ordered { IsOrdered entries.old.entries }
     requires keys { AreKeys T.low T.high entries.old.entries }
-    requires joined { IsJoinedBut V.eq (map T.rank join_keys.items) entries.old.entries }
-    ensures canonical { IsCanonical V.eq entries.new.entries }
-    ensures keys { AreKeys T.low T.high entries.new.entries }
-    ensures count { keys_in entries.new.entries ≡ keys_in entries.old.entries }
-    ensures same { SameContent V.eq entries.new.entries entries.old.entries }
-    ensures kept { AreStartsKept V.eq (at entries.old.entries) entries.old.entries entries.new.entries }
+    requires joints { IsJoinedBut V.eq (map T.rank join_keys.items) entries.old.entries }
+    ensures joined { AreAllJoined V.eq T.low T.high entries.old.entries entries.new.entries }
     ensures counted { IsCounted entries.old entries.new }
 {
     let mut join_keys = join_keys;

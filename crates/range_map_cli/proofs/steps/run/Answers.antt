@@ -9,8 +9,8 @@ returns-in_default-clause-refused g c =
     refused_at g.V.PartialEq.eq g.T.Integer.rank _ _ [] c.args.steps.items c.args.steps.items 0 _ _ _ refl refl (inr refl)
     (running_none g.V.PartialEq.eq g.met.V.Eq.laws g.T.Integer.rank _ _ c.args.map.now c.in_hand.ensures)
 
-pub returns-in_default-clause-err_counted : goal.returns-in_default-clause-err_counted
-returns-in_default-clause-err_counted g c = λ edits. counted_none c.args.map.now
+pub returns-in_default-clause-counted : goal.returns-in_default-clause-counted
+returns-in_default-clause-counted g c = λ edits. (tt, counted_none c.args.map.now)
 
 pub loop-step-init : goal.loop-step-init
 loop-step-init g c = (
@@ -28,12 +28,14 @@ returns-in_default-take_step-clause-refused g c =
     rw c.in_default-take_step.ensures.err (refused_at g.V.PartialEq.eq g.T.Integer.rank _ _ i.0 (c.in-Some.step ∷ into_iter_items c.next.new.self) c.args.steps.items c.len-in_default-take_step.result c.args.map.now c.loop-step.map
     c.loop-step.answers.items (i.1 ∙ ap (λ ss. i.0 ++ ss) split) (c.len-in_default-take_step.ensures ∙ i.3) (inl (omega arith)) i.2)
 
-pub returns-in_default-take_step-clause-err_counted : goal.returns-in_default-take_step-clause-err_counted
-returns-in_default-take_step-clause-err_counted g c =
+pub returns-in_default-take_step-clause-counted : goal.returns-in_default-take_step-clause-counted
+returns-in_default-take_step-clause-counted g c = λ edits.
     let i = c.loop-step.invariant in
-    let split : into_iter_items c.loop-step.step-iterator ≡ c.in-Some.step ∷ into_iter_items c.next.new.self = search rules in
-    refused_counted g.V.PartialEq.eq g.T.Integer.rank _ _ i.0 (into_iter_items c.next.new.self) c.args.steps.items c.in-Some.step c.args.map.now c.loop-step.map c.take_step.new.map c.loop-step.answers.items
-    (i.1 ∙ ap (λ ss. i.0 ++ ss) split) i.2 c.in_default-take_step.ensures.err_counted
+    let split : into_iter_items c.loop-step.step-iterator ≡ c.in-Some.step ∷ into_iter_items c.next.new.self = search rules in (
+      tt,
+      refused_counted g.V.PartialEq.eq g.T.Integer.rank _ _ i.0 (into_iter_items c.next.new.self) c.args.steps.items c.in-Some.step c.args.map.now c.loop-step.map c.take_step.new.map c.loop-step.answers.items
+          (i.1 ∙ ap (λ ss. i.0 ++ ss) split) i.2 c.in_default-take_step.ensures.err_counted edits,
+    )
 
 pub push_reserved-requires : goal.push_reserved-requires
 push_reserved-requires g c =
@@ -73,7 +75,7 @@ returns-clause-counted g c =
     let i = c.loop-step.invariant in
     let none : into_iter_items c.loop-step.step-iterator ≡ [] = nil_from_length (into_iter_items c.loop-step.step-iterator) (sym c.loop-step.step-iterator.rest.ok.0 ∙ c.in-None.ensures.steps.0) in
     let ran = all_done g.V.PartialEq.eq g.T.Integer.rank g.T.Integer.low g.T.Integer.high i.0 _ c.args.steps.items c.args.map.now c.loop-step.map c.loop-step.answers.items i.1 none i.2 in
-    λ edits. counted_run _ _ _ (ran.counted edits)
+    λ edits. (counted_run _ _ _ (ran.counted edits), tt)
 
 pub returns-clause-few : goal.returns-clause-few
 returns-clause-few g c =

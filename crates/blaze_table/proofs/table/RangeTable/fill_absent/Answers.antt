@@ -27,7 +27,7 @@ returns-in-Ok-clause-ok g c =
     (filled_whole eq g.met.V.Eq.laws g.T.Integer.low g.T.Integer.high (rank c.args.lo) (rank c.args.hi) (rank c.in-Some.first.start) (rank c.in-Some.first.end) c.args.value
     (map rank c.insert_all.new.made.starts.items) (map rank c.insert_all.new.made.join_keys.items)
     c.self.inside.entries.counted.entries c.insert_all.new.entries.counted.entries new c.self.invariant.canonical c.in-Some.ensures.gap c.in-Ok.ensures.filled
-    c.join_all.ensures.same c.join_all.ensures.kept c.join_all.ensures.canonical c.join_all.ensures.keys)
+    c.join_all.ensures.joined.same c.join_all.ensures.joined.kept c.join_all.ensures.joined.canonical c.join_all.ensures.joined.are_keys)
 
 pub returns-in-Ok-clause-held : goal.returns-in-Ok-clause-held
 returns-in-Ok-clause-held g c s =

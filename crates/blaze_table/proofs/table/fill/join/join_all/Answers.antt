@@ -12,7 +12,7 @@ pub loop-key-init : goal.loop-key-init
 loop-key-init g c = record {
   ordered = c.requires.ordered;
   are_keys = c.requires.keys;
-  joined = c.requires.joined;
+  joined = c.requires.joints;
   count = refl;
   same = same_content g.V.PartialEq.eq g.met.V.Eq.laws c.args.entries.now.entries;
   kept = starts_same g.V.PartialEq.eq (at c.args.entries.now.entries) c.args.entries.now.entries;
@@ -34,6 +34,13 @@ loop-key-preserved g c =
       counted = counted_then c.args.entries.now c.loop-key.entries c.join.new.entries i.counted c.join.ensures.counted;
     }
 
-pub returns-clause-canonical : goal.returns-clause-canonical
-returns-clause-canonical g c =
-    joined_all g.V.PartialEq.eq g.met.V.Eq.laws g.T.Integer.rank c.loop-key.join_keys.items c.loop-key.entries.entries (omega (arith, c.in_default.ensures.cases)) c.loop-key.invariant.ordered c.loop-key.invariant.joined
+pub returns-clause-joined : goal.returns-clause-joined
+returns-clause-joined g c =
+    let i = c.loop-key.invariant in
+    record {
+      canonical = joined_all g.V.PartialEq.eq g.met.V.Eq.laws g.T.Integer.rank c.loop-key.join_keys.items c.loop-key.entries.entries (omega (arith, c.in_default.ensures.cases)) i.ordered i.joined;
+      are_keys = i.are_keys;
+      count = i.count;
+      same = i.same;
+      kept = i.kept;
+    }
