@@ -1,10 +1,10 @@
 #!/usr/bin/env bash
 # Tests bindings/, over the library that bindings/build.sh makes:
 # - the header as C99 and as C++, without a warning, and that it declares what the library exports;
-# - each function with each of its allocations failing in turn (tests/bindings.c), and random calls against a model
-#   (tests/random_calls.c), both under valgrind too, or under sanitizers if there is no valgrind;
-# - four threads (tests/threads.c), under helgrind and DRD too;
-# - the C++ header (tests/bindings.cpp), the package (tests/package.sh), and the errors of build.sh;
+# - each function with each of its allocations failing in turn (tests/c/calls.c), and random calls against a model
+#   (tests/c/random_calls.c), both under valgrind too, or under sanitizers if there is no valgrind;
+# - four threads (tests/c/threads.c), under helgrind and DRD too;
+# - the C++ header (tests/cpp), the package (tests/package.sh), and the errors of build.sh;
 # - the Python module (tests/python) and the Rust crate, with the examples of their docs;
 # - the example in each language, on random tables, against bindings/examples/expected.py (tests/examples.py);
 # - the program of README.md.
@@ -47,18 +47,18 @@ counts() { # what it is called here, the command
 # ---- C
 strict=(-Wall -Wextra -pedantic -Werror -g -O1 -I bindings)
 wrap=(-Wl,--wrap=malloc,--wrap=realloc,--wrap=free)
-builds "C99" cc -std=c99 "${strict[@]}" -o "$work/c99" tests/bindings.c "$library" "${wrap[@]}"
+calls=(tests/c/{allocation,arguments,calls,failing,lookups,maps,results,unchanged}.c)
+builds "C99" cc -std=c99 "${strict[@]}" -o "$work/c99" "${calls[@]}" "$library" "${wrap[@]}"
 counts "failing allocations from C" "$work/c99"
-builds "random calls" cc -std=c99 "${strict[@]}" -o "$work/random" tests/random_calls.c "$library" "${wrap[@]}"
+builds "random calls" cc -std=c99 "${strict[@]}" -o "$work/random" tests/c/{allocation,change,check,model,random_calls}.c "$library" "${wrap[@]}"
 counts "random calls from C" "$work/random" 60000 "$RANDOM"
-builds "threads" cc -std=gnu99 "${strict[@]}" -pthread -o "$work/threads" tests/threads.c "$library"
+builds "threads" cc -std=gnu99 "${strict[@]}" -pthread -o "$work/threads" tests/c/threads.c "$library"
 counts "look-ups from four threads" "$work/threads"
 if has c++; then
-    builds "C++" c++ -std=c++11 "${strict[@]}" -x c++ -c -o "$work/c++.o" tests/bindings.c
-    builds "C++, linked" c++ -o "$work/c++" "$work/c++.o" "$library" "${wrap[@]}"
+    builds "C++" c++ -std=c++11 "${strict[@]}" -o "$work/c++" -x c++ "${calls[@]}" -x none "$library" "${wrap[@]}"
     counts "failing allocations from C++" "$work/c++" 40
 fi
-if has clang; then builds "clang" clang -std=c99 "${strict[@]}" -c -o "$work/clang.o" tests/bindings.c; fi
+if has clang; then builds "clang" clang -std=c99 "${strict[@]}" -fsyntax-only "${calls[@]}"; fi
 declared="$(grep -v '^static inline' bindings/range_map.h | grep -oE '^[a-z0-9_]+ +range_[a-z_]+\(' | grep -oE 'range_(map|table)_[a-z_]*' | LC_ALL=C sort)"
 judge "$declared" "$(nm -g --defined-only "$library" 2>/dev/null | sed -n 's/^[0-9a-f]* T \(range_[a-z_]*\)$/\1/p' | LC_ALL=C sort)" "what the library exports"
 judge "free malloc realloc" "$(nm -u "$library" 2>/dev/null | grep -oE '\b(calloc|free|malloc|mmap|realloc|[a-z_]*mem_?align|aligned_alloc)$' | sort -u | paste -sd ' ')" \
@@ -69,7 +69,7 @@ strict_cpp=(-Wall -Wextra -pedantic -Wconversion -Wshadow -Wold-style-cast -Werr
 for compiler in g++ clang++; do
     if has "$compiler"; then
         for standard in c++17 c++20; do
-            builds "$compiler -std=$standard" "$compiler" "-std=$standard" "${strict_cpp[@]}" -fsyntax-only tests/bindings.cpp
+            builds "$compiler -std=$standard" "$compiler" "-std=$standard" "${strict_cpp[@]}" -fsyntax-only tests/cpp/*.cpp
         done
         for types in 'int, double' 'bool, int' 'int, std::vector<int>'; do
             printf '#include "range_map.hpp"\n#include <vector>\nrangemap::map<%s> map;\n' "$types" >"$work/types.cpp"
@@ -79,11 +79,11 @@ for compiler in g++ clang++; do
     fi
 done
 if has c++; then
-    builds "random calls from C++, built" c++ -std=c++17 "${strict_cpp[@]}" -O1 -o "$work/cpp" tests/bindings.cpp "$library" "${wrap[@]}"
-    counts "random calls from C++" "$work/cpp" 100000 "$RANDOM"
-    builds "sanitizers" c++ -std=c++20 "${strict_cpp[@]}" -O0 -fsanitize=address,undefined -fno-sanitize-recover=undefined -o "$work/cpp" \
-        tests/bindings.cpp "$library" "${wrap[@]}"
-    counts "random calls from C++ under sanitizers" "$work/cpp" 10000 "$RANDOM"
+    cpp=(-x c++ tests/c/allocation.c tests/cpp/*.cpp -x none "$library" "${wrap[@]}")
+    builds "calls from C++, built" c++ -std=c++17 "${strict_cpp[@]}" -O1 -o "$work/cpp" "${cpp[@]}"
+    counts "calls from C++" "$work/cpp" 100000 "$RANDOM"
+    builds "sanitizers" c++ -std=c++20 "${strict_cpp[@]}" -O0 -fsanitize=address,undefined -fno-sanitize-recover=undefined -o "$work/cpp" "${cpp[@]}"
+    counts "calls from C++ under sanitizers" "$work/cpp" 10000 "$RANDOM"
 fi
 
 # ---- Memory and threads
@@ -98,7 +98,7 @@ else
     for compiler in clang gcc; do
         if command -v "$compiler" >/dev/null; then
             builds "sanitizers of $compiler" "$compiler" -std=c99 "${strict[@]}" -fsanitize=address,undefined -o "$work/sanitized" \
-                tests/bindings.c "$library" "${wrap[@]}"
+                "${calls[@]}" "$library" "${wrap[@]}"
             counts "failing allocations under sanitizers of $compiler" "$work/sanitized" 40
             break
         fi

@@ -125,7 +125,7 @@ has_no_other "docs/CALLS.md, of C," "$on_c_page" "$for_users"
 in_each_language="$(on_page '###' 'In each language' | sed 's/^/range_map_/; s/^range_map_range_table_/range_table_/')"
 has_each "docs/CALLS.md, in each language," "$for_users" "$in_each_language"
 has_no_other "docs/CALLS.md, in each language," "$in_each_language" "$for_users"
-are_in "$for_users" "$(grep -hoE 'range_(map|table)_[a-z_]+\(' tests/*.c | tr -d '(')" "no test in C calls NAME"
+are_in "$for_users" "$(grep -hoE 'range_(map|table)_[a-z_]+\(' tests/c/*.c | tr -d '(')" "no test in C calls NAME"
 
 # ---- What the tables for C name in other languages, except what these have themselves
 in_column() { # the language
@@ -138,7 +138,7 @@ in_column() { # the language
 }
 has_no_other "docs/CALLS.md, of Rattle," "$(in_column Rattle)" "$map"$'\n'union
 has_each bindings/range_map.hpp "$(in_column C++)" "$(grep -oE '\b[a-z_]+\(' bindings/range_map.hpp | tr -d '(')"
-has_each tests/bindings.cpp "$(in_column C++)" "$(grep -oE '[a-z_]+\(' tests/bindings.cpp | tr -d '(')"
+has_each tests/cpp "$(in_column C++)" "$(grep -hoE '[a-z_]+\(' tests/cpp/*.cpp | tr -d '(')"
 has_each bindings/rust/src "$(in_column Rust)" "$(grep -rhoE '\bfn [a-z_]+' bindings/rust/src | sed 's/fn //')"
 has_each bindings/rust/tests "$(in_column Rust)" "$(grep -rhoE '[.:][a-z_]+' bindings/rust/tests | tr -d '.:')"
 has_each bindings/python/range_map/__init__.pyi "$(in_column Python)" "$(grep -oE 'def [a-z_]+' bindings/python/range_map/__init__.pyi | sed 's/def //')"
