@@ -188,7 +188,7 @@ static bool fail_one(const struct call *call, long size, long request, const str
 static long fail_each(const struct call *call, long size) {
     static struct contents before, after;
     struct maps maps;
-    long all, spared = 0;
+    long all, optional = 0;
     start(&maps, size);
     read_contents(&maps, &before);
     requests = failing_request = 0;
@@ -196,10 +196,10 @@ static long fail_each(const struct call *call, long size) {
     all = requests;
     read_contents(&maps, &after);
     end(&maps);
-    for (long request = 1; request <= all; request++) spared += fail_one(call, size, request, &before, &after);
-    judge(spared <= call->optional, call->name, size, -spared);
+    for (long request = 1; request <= all; request++) optional += fail_one(call, size, request, &before, &after);
+    judge(optional <= call->optional, call->name, size, -optional);
     judge_freed(size);
-    return all - spared;
+    return all - optional;
 }
 
 void test_failing_allocations(const long *sizes, size_t count, long most) {

@@ -27,7 +27,7 @@ uint64_t draw(uint64_t below);
 void make_atoms(void);
 wide size_of(int atom);
 
-/* Whether two atoms have the same value, or both have none. */
+/* Whether two atoms have equal values, or neither has a value. */
 bool is_same_value(const struct model *model, int one, int other);
 bool is_content(const struct range_map *map, const struct model *model);
 
