@@ -1,5 +1,5 @@
 -- The names from other crates that this crate's proofs use. The files of proofs import them from here.
-pub use Rattle.std.proofs.Common.{◌≡◌, ℤ, ◌≤ℤ◌, cond, Option, Some, None, refl, ◌∙◌, sym, subst, ap, arith, inl, inr, ℕ, ◌<◌, pos, ◌+ℤ◌, ◌<ℤ◌, Bool, true, false, nat_eq, List, [], ◌∷◌, ◌++◌, ⊎_elim, ◌&&◌, ◌||◌, zero, suc, ◌+◌, length, if◌then◌else◌, ◌≤◌, All, IsPermutation, append_assoc, ◌-ℤ◌, map, min, slice_index_or, slice_set, drop, Bor, rules, ◌-◌}
+pub use Rattle.std.proofs.Common.{◌≡◌, ℤ, ◌≤ℤ◌, cond, Option, Some, None, refl, ◌∙◌, sym, subst, ap, arith, inl, inr, ℕ, ◌<◌, pos, ◌+ℤ◌, ◌<ℤ◌, Bool, true, false, nat_eq, List, [], ◌∷◌, ◌++◌, ⊎_elim, ◌&&◌, ◌||◌, zero, suc, ◌+◌, length, if◌then◌else◌, ◌≤◌, All, IsPermutation, append_assoc, ◌-ℤ◌, map, min, slice_index_or, slice_set, drop, Bor, rules, ◌-◌, not, take}
 pub use Rattle.std.proofs.Math.Seq.{set-append_seam, get_or-append_seam}
 pub use Rattle.std.proofs.lemmas.Bool.{false_from_ne_true, and_left, and_right}
 pub use Rattle.std.proofs.lemmas.Bool.Decides.{Decides-int_eq}
@@ -7,10 +7,12 @@ pub use Rattle.std.proofs.lemmas.Cmp.{and_equiv, on_equiv}
 pub use Rattle.std.proofs.lemmas.Fn.{FoldsTo-push}
 pub use Rattle.std.proofs.lemmas.Grind.{common_steps}
 pub use Rattle.std.proofs.lemmas.Int.{ints, by_lt_z}
-pub use Rattle.std.proofs.lemmas.List.{append-nil, map-append, length_push, length-append, length-map, nil_from_length, drop_all, set-get_or}
+pub use Rattle.std.proofs.lemmas.List.{append-nil, map-append, length_push, length-append, length-map, nil_from_length, drop_all, set-get_or, take-append-drop}
 pub use Rattle.std.proofs.lemmas.List.Elements.{AllZip-push, All-nil, All-cons, All-head, All-tail, All-append}
+pub use Rattle.std.proofs.lemmas.List.Folds.{list_all-append}
 pub use Rattle.std.proofs.lemmas.List.Sorted.{IsPermutation-map, All-permutation, answers_always}
 pub use Rattle.std.proofs.lemmas.Option.{MatchOption-at_none, MatchOption-at_some}
+pub use Rattle.std.proofs.lemmas.Result.{IfOk-weaker}
 pub use Rattle.std.specs.Bool.{⊤}
 pub use Rattle.std.specs.Cmp.{IsEquivalence, first_so, second_so, nat_eq_equiv}
 pub use Rattle.std.specs.Cmp.Lexicographic.{lists_equiv, options_equiv}
@@ -18,7 +20,7 @@ pub use Rattle.std.specs.Fn.{Mut}
 pub use Rattle.std.specs.Global.{Vec}
 pub use Rattle.std.specs.Int.{int_min, int_max}
 pub use Rattle.std.specs.Iterator.{IsFinite}
-pub use Rattle.std.specs.List.{list_any, FoldsTo, zip}
+pub use Rattle.std.specs.List.{list_any, FoldsTo, zip, list_all}
 pub use Rattle.std.specs.List.Sorted.{IsSortedByKey}
 pub use Rattle.std.specs.Option.{option_eq, is_some, option_or, option_map, option_xor, option_copied}
 pub use Rattle.std.specs.Ordering.{int_eq, is_lt, int_cmp, bool_cmp, ordering_then}
@@ -30,7 +32,7 @@ pub use Rattle.std.specs.Vec.Iter.{into_iter_items}
 pub use Rattle.std.specs.declared.cmp.Ordering.{Ordering}
 pub use Rattle.std.specs.declared.cmp.Ordering.TheVariants.{Less, Equal, Greater}
 pub use Rattle.std.specs.declared.ops.RangeInclusive.{RangeInclusive}
-pub use Rattle.blaze_entries.proofs.Alike.{same_along, or_none, or_assoc, same_none, same_itself, same_trans, same_or_left, same_or_right, same_back, none_or, is_some_alike}
+pub use Rattle.blaze_entries.proofs.Alike.{same_along, or_none, or_assoc, same_none, same_itself, same_trans, same_or_left, same_or_right, same_back, none_or, is_some_alike, same_or}
 pub use Rattle.blaze_entries.proofs.Steps.{goes_last, goes_first}
 pub use Rattle.blaze_entries.specs.Cloned.{AreCloned}
 pub use Rattle.blaze_entries.specs.Found.{range_in, shown_ends}
@@ -51,6 +53,8 @@ pub use Rattle.blaze_streams.specs.JoinLaws.{as_row, AnswersKeepKeys, LeftJoinHa
 pub use Rattle.blaze_streams.specs.Joins.{is_joined, pair_eq, piece_of, IsJoinOf, IsCarriedJoin, IsSegmentPut, paired, IsLetGo, IsNotAsked, IsSkipped}
 pub use Rattle.blaze_streams.specs.KeyRanges.{TakesLastEnds, joined_ranges, joined_left, bare_entries, ranges_then, AreKeyRanges, TakesEnds}
 pub use Rattle.blaze_streams.specs.LastParts.{IsLastPart, IsSought}
+pub use Rattle.blaze_streams.specs.Many.{has_odd, last_value, last_of_all}
+pub use Rattle.blaze_streams.specs.Merges.{GivesEach, GivesBoth}
 pub use Rattle.blaze_streams.specs.RangeLists.{shown_ranges}
 pub use Rattle.blaze_streams.specs.Ranges.{shown_range}
 pub use Rattle.blaze_streams.specs.Segments.{row, row_if_any, row_eq, shown_segment, shown_segments, IsSegmentsOf, numbered, all_numbered, AreInOrder}

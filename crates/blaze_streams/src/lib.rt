@@ -69,7 +69,13 @@ pub use transforms::answers_of;
 #[doc(hidden)]
 pub use cursor::Cursor;
 #[doc(hidden)]
+pub use merge::list_of::list_of;
+#[doc(hidden)]
+pub use merge::operations::{Intersection, OddKeys, Union};
+#[doc(hidden)]
 pub use merge::push::push_joined;
+#[doc(hidden)]
+pub use merge::rounds::merged;
 #[doc(hidden)]
 pub use segmenting::cursors::PlaceCursor;
 #[doc(hidden)]

@@ -1,6 +1,5 @@
 -- What a closure answered so far at the segments of many lists, and one answer more.
-use Rattle.range_map_multi.proofs.Words.{◌≡◌, ℕ, suc, ◌<◌, ℤ, ◌≤ℤ◌, Bool, true, false, cond, List, [], ◌∷◌, length, Option, Some, None, refl, ◌∙◌, sym, ap, subst, arith, is_some, list_any, Mut, IsEquivalence, ints, Entry, entry, glue, at_in, canonical, one_per_run, AnswersAtValue, TakesValue, AllCanonical, first_keys, all_after, IsNextSegment, row, row_eq, IsAnsweredSoFar, answered_none, takes_next, answered_more, answered_all, next_less, all_lengths_left, all_canonical_after, is_first, IsJoinOfMany, IsCallableAtRows, IsManyJoined, AllPlaced, AllRangeMaps, values_at_positions}
-use Rattle.range_map_multi.proofs.Many.{row_length}
+use Rattle.range_map_multi.proofs.Words.{◌≡◌, ℕ, suc, ◌<◌, ℤ, ◌≤ℤ◌, Bool, true, false, cond, List, [], ◌∷◌, length, Option, Some, None, refl, ◌∙◌, sym, ap, subst, arith, is_some, list_any, Mut, IsEquivalence, ints, Entry, entry, glue, at_in, canonical, one_per_run, AnswersAtValue, TakesValue, AllCanonical, first_keys, all_after, IsNextSegment, row, row_eq, IsAnsweredSoFar, answered_none, takes_next, answered_more, answered_all, next_less, all_lengths_left, all_canonical_after, is_first, IsJoinOfMany, IsCallableAtRows, IsManyJoined, AllPlaced, AllRangeMaps, values_at_positions, row_length}
 use Rattle.range_map_multi.proofs.Placed.{alike, with_row, next_alike}
 use Rattle.range_map_multi.proofs.RowSegments.{entries_where, AreSegments, AllKeys, next_is, none_is, segments_exist, rows_equiv, asked_segments}
 

@@ -1,6 +1,5 @@
 -- One list among many: those before it, it, and those behind it.
-use Rattle.range_map_multi.proofs.Words.{◌≡◌, ◌<◌, ◌+◌, ℕ, ℤ, Bool, true, false, cond, ◌&&◌, List, [], ◌∷◌, ◌++◌, length, map, take, drop, get_or, Option, Some, None, is_some, refl, ◌∙◌, sym, ap, subst, arith, length-drop, list_all, IsEquivalence, map-append, take-append-drop, list_all-append, same_trans, same_itself, same_or, or_assoc, Entry, at, SameOption, IsRangeMap, right_first, left_with_right, IsChosen, from_index, row, IsUnion, last_value, last_of_all, IsChosenOfMany, with_all, IsOnAll}
-use Rattle.range_map_multi.proofs.Many.{row_append, last_append, with_alike}
+use Rattle.range_map_multi.proofs.Words.{◌≡◌, ◌<◌, ◌+◌, ℕ, ℤ, Bool, true, false, cond, ◌&&◌, List, [], ◌∷◌, ◌++◌, length, map, take, drop, get_or, Option, Some, None, is_some, refl, ◌∙◌, sym, ap, subst, arith, length-drop, list_all, IsEquivalence, map-append, take-append-drop, list_all-append, same_trans, same_itself, same_or, or_assoc, Entry, at, SameOption, IsRangeMap, right_first, left_with_right, IsChosen, from_index, row, IsUnion, last_value, last_of_all, IsChosenOfMany, with_all, IsOnAll, row_append, last_append, with_alike}
 
 -- what a function gives for the items in front of the one at an index, for it, and for those behind it
 pub parted : {A B : Type 0} (f : A → B) (xs front back : List A) (i : ℕ) (x : A) (y : B) → i < length xs → x ≡ get_or xs i x → y ≡ f x → front ≡ take i xs → back ≡ drop (i + 1) xs → map f front ++ y ∷ map f back ≡ map f xs

@@ -1,6 +1,5 @@
 -- The symmetric difference of many lists, by one of them, those before it and those behind it; and two lists as many.
-use Rattle.range_map_multi.proofs.Words.{option_xor, ◌≡◌, ℤ, Bool, true, false, not, cond, List, [], ◌∷◌, ◌++◌, append_assoc, Option, Some, None, is_some, refl, ◌∙◌, sym, ap, subst, IsEquivalence, same_trans, same_itself, same_or, or_none, Entry, at, SameOption, right_first, left_with_right, IsChosen, row, IsUnion, last_value, has_odd, last_of_odd, IsChosenOfMany}
-use Rattle.range_map_multi.proofs.Many.{one_of, row_append, last_append, first_some, odd_append, with_alike}
+use Rattle.range_map_multi.proofs.Words.{option_xor, ◌≡◌, ℤ, Bool, true, false, not, cond, List, [], ◌∷◌, ◌++◌, append_assoc, Option, Some, None, is_some, refl, ◌∙◌, sym, ap, subst, IsEquivalence, same_trans, same_itself, same_or, or_none, Entry, at, SameOption, right_first, left_with_right, IsChosen, row, IsUnion, last_value, has_odd, last_of_odd, IsChosenOfMany, one_of, row_append, last_append, first_some, odd_append, with_alike}
 use Rattle.range_map_multi.proofs.Around.{all_alike}
 use Rattle.range_map_multi.proofs.OfTwo.{odd_of_two}
 

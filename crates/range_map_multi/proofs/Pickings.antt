@@ -1,6 +1,5 @@
 -- The rows of what is picked from lists.
-use Rattle.range_map_multi.proofs.Words.{◌≡◌, ℕ, ◌<◌, ℤ, Bool, true, false, nat_eq, List, [], ◌∷◌, length, map, Option, Some, None, is_some, refl, ◌∙◌, sym, ap, option_map, arith, slice_get, list_all, list_any, option_and_then, nil_from_length, slice_get-map, Entry, shown_option, row, shown_row, shown_full_row, AllPlaced, all_valued, values_at_positions}
-use Rattle.range_map_multi.proofs.Many.{row_length}
+use Rattle.range_map_multi.proofs.Words.{◌≡◌, ℕ, ◌<◌, ℤ, Bool, true, false, nat_eq, List, [], ◌∷◌, length, map, Option, Some, None, is_some, refl, ◌∙◌, sym, ap, option_map, arith, slice_get, list_all, list_any, option_and_then, nil_from_length, slice_get-map, Entry, shown_option, row, shown_row, shown_full_row, AllPlaced, all_valued, values_at_positions, row_length}
 use Rattle.range_map_multi.proofs.Placed.{alike}
 
 pub none_from_empty : {A : Type 0} (xs : List A) (b : Bool) → b ≡ nat_eq (length xs) 0 → b ≡ true → xs ≡ []

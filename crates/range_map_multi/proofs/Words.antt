@@ -16,7 +16,7 @@ pub use Rattle.std.specs.List.{list_any, slice_get, list_all, between}
 pub use Rattle.std.specs.Option.{is_some, option_and_then, option_or, option_xor}
 pub use Rattle.std.specs.Prelude.{int_le}
 pub use Rattle.std.specs.Vec.Iter.{into_iter_items}
-pub use Rattle.blaze_entries.proofs.Alike.{or_none, same_trans, same_itself, same_or, or_assoc, is_some_alike, same_back}
+pub use Rattle.blaze_entries.proofs.Alike.{or_none, same_trans, same_itself, same_or, or_assoc, same_back}
 pub use Rattle.blaze_int.proofs.Comparisons.{by_bool}
 pub use Rattle.blaze_int.proofs.Naturals.{next_differs}
 pub use Rattle.blaze_int.specs.Unsigned.{nat_of}
@@ -26,6 +26,8 @@ pub use Rattle.blaze_streams.proofs.JoinLaws.{as_list, at_rows, canonical_rows}
 pub use Rattle.blaze_streams.proofs.LengthsLeft.{all_lengths_left, lengths_left}
 pub use Rattle.blaze_streams.proofs.Lesser.{lesser_one}
 pub use Rattle.blaze_streams.proofs.Paired.{pair_laws}
+pub use Rattle.blaze_streams.proofs.ItemsTaken.{taken_more, taken_all}
+pub use Rattle.blaze_streams.proofs.RowParts.{row_append, row_length, last_append, first_some, one_of, odd_append, with_alike}
 pub use Rattle.blaze_streams.proofs.Rows.{all_canonical_after, is_first, steady_none, none_left}
 pub use Rattle.blaze_streams.proofs.Steady.{same_some, stops_steady}
 pub use Rattle.blaze_streams.specs.Answers.{AnswersAtValue, TakesValue, values, entries_with_results}
@@ -34,6 +36,8 @@ pub use Rattle.blaze_streams.specs.Cursors.{AllCanonical, first_keys, all_after,
 pub use Rattle.blaze_streams.specs.JoinAnswers.{IsJoined}
 pub use Rattle.blaze_streams.specs.JoinLaws.{as_row}
 pub use Rattle.blaze_streams.specs.Joins.{paired, pair_eq, IsJoinOf}
+pub use Rattle.blaze_streams.specs.Many.{has_odd, last_value, last_of_all, IsChosenOfMany, last_of_odd}
+pub use Rattle.blaze_streams.specs.Merges.{GivesEach}
 pub use Rattle.blaze_streams.specs.RangeLists.{shown_ranges}
 pub use Rattle.blaze_streams.specs.Ranges.{shown_range}
 pub use Rattle.blaze_streams.specs.Segments.{row, row_eq, row_if_any, shown_segment}
@@ -53,10 +57,8 @@ pub use Rattle.blaze_table.specs.Splice.{glue, after}
 pub use Rattle.range_map_blaze.proofs.JoinedKeys.{below_all, above_all}
 pub use Rattle.range_map_blaze.proofs.Made.{made_of}
 pub use Rattle.range_map_blaze.proofs.Streams.{range_map_as}
-pub use Rattle.range_map_blaze.proofs.Taken.{taken_more, taken_all}
 pub use Rattle.range_map_blaze.specs.Union.{IsUnion}
-pub use Rattle.range_map_multi.specs.Many.{has_odd, last_value, last_of_all, IsChosenOfMany, last_of_odd}
 pub use Rattle.range_map_multi.specs.ManyJoins.{IsJoinOfMany, IsCallableAtRows, IsManyJoined, shown_row, shown_full_row, asked_row}
 pub use Rattle.range_map_multi.specs.ManyLaws.{UnionOfTwoIsOr, IntersectionOfTwoIsAnd, SymmetricDifferenceOfTwoIsXor, InnerJoinOfTwoIsInnerJoin, FullJoinOfTwoIsFullJoin}
-pub use Rattle.range_map_multi.specs.Merges.{with_all, IsOnAll, GivesEach, GivesBoth}
+pub use Rattle.range_map_multi.specs.OnAll.{with_all, IsOnAll}
 pub use Rattle.range_map_multi.specs.Parts.{AllPlaced, AllRangeMaps, values_at_positions, all_valued, with_values, in_places, HasPlacedValues, with_valued_range, ranges_with_values}

@@ -1,5 +1,4 @@
-pub mod Many
 pub mod ManyJoins
 pub mod ManyLaws
-pub mod Merges
+pub mod OnAll
 pub mod Parts

@@ -7,7 +7,7 @@ use Rattle.blaze_table.specs.Entries.{Entry, SameEntries}
 use Rattle.blaze_table.specs.Chosen.{right_first, left_with_right, IsChosen}
 use Rattle.blaze_streams.specs.declared.segmenting.joins.JoinKind.TheVariants.{Inner, Full}
 use Rattle.blaze_streams.specs.JoinAnswers.{IsJoined}
-use Rattle.range_map_multi.specs.Many.{last_value, last_of_all, last_of_odd, IsChosenOfMany}
+use Rattle.blaze_streams.specs.Many.{last_value, last_of_all, last_of_odd, IsChosenOfMany}
 use Rattle.range_map_multi.specs.ManyJoins.{IsManyJoined}
 
 module _ {V : Type 0} (eq : V → V → Bool) (low high : ℤ) where

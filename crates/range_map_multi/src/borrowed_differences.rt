@@ -2,15 +2,13 @@
 ghost use Rattle.std.specs.Prelude.{◌<◌, ◌∷◌, length, map, IfOk};
 ghost use Rattle.blaze_table.specs.Painted.{ClonesAreAlike};
 ghost use Rattle.range_map_blaze.specs.Made.{IsMade};
-ghost use Rattle.range_map_multi.specs.Many.{last_of_odd, IsChosenOfMany};
+ghost use Rattle.blaze_streams.specs.Many.{last_of_odd, IsChosenOfMany};
 
 use crate::borrowed_maps::{AsMap, streams_of};
 use crate::borrowed_unions::union_by_rounds;
-use crate::merges::merged;
-use crate::operations::{OddKeys, Union};
 use crate::sizes::position_of_large;
 use blaze_int::Integer;
-use blaze_streams::{SortedDisjointMap, intersection_of};
+use blaze_streams::{OddKeys, SortedDisjointMap, Union, intersection_of, merged};
 use range_map_blaze::RangeMapBlaze;
 use std::alloc::{AllocError, Global};
 

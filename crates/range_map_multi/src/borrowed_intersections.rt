@@ -2,16 +2,15 @@
 ghost use Rattle.std.specs.Prelude.{◌<◌, ◌∷◌, length, map, IfOk};
 ghost use Rattle.blaze_table.specs.Painted.{ClonesAreAlike};
 ghost use Rattle.range_map_blaze.specs.Made.{IsMade};
-ghost use Rattle.range_map_multi.specs.Many.{last_of_all, IsChosenOfMany};
-ghost use Rattle.range_map_multi.specs.Merges.{IsOnAll};
+ghost use Rattle.blaze_streams.specs.Many.{last_of_all, IsChosenOfMany};
+ghost use Rattle.range_map_multi.specs.OnAll.{IsOnAll};
 
 use crate::borrowed_maps::{AsMap, entries_of, streams_of};
-use crate::lists::list_of;
-use crate::merges::merged;
-use crate::operations::Intersection;
 use crate::sizes::position_of_smallest;
 use blaze_int::Integer;
-use blaze_streams::{CanonMapIter, SortedDisjointMap, intersection_of};
+use blaze_streams::{
+    CanonMapIter, Intersection, SortedDisjointMap, intersection_of, list_of, merged,
+};
 use range_map_blaze::RangeMapBlaze;
 use std::alloc::{AllocError, Global};
 

@@ -2,14 +2,12 @@
 ghost use Rattle.std.specs.Prelude.{◌<◌, length, map, IfOk};
 ghost use Rattle.blaze_table.specs.Painted.{ClonesAreAlike};
 ghost use Rattle.range_map_blaze.specs.Made.{IsMade};
-ghost use Rattle.range_map_multi.specs.Many.{last_value, IsChosenOfMany};
+ghost use Rattle.blaze_streams.specs.Many.{last_value, IsChosenOfMany};
 
 use crate::borrowed_maps::{AsMap, streams_of};
-use crate::merges::merged;
-use crate::operations::Union;
 use crate::sizes::position_of_large;
 use blaze_int::Integer;
-use blaze_streams::SortedDisjointMap;
+use blaze_streams::{SortedDisjointMap, Union, merged};
 use range_map_blaze::RangeMapBlaze;
 use std::alloc::{AllocError, Global};
 

@@ -2,7 +2,7 @@
 ghost use Rattle.std.specs.Prelude.{◌<◌, length, map, IfOk};
 ghost use Rattle.blaze_table.specs.Painted.{ClonesAreAlike};
 ghost use Rattle.range_map_blaze.specs.Made.{IsMade};
-ghost use Rattle.range_map_multi.specs.Many.{last_of_odd, IsChosenOfMany};
+ghost use Rattle.blaze_streams.specs.Many.{last_of_odd, IsChosenOfMany};
 
 use crate::borrowed_differences::{difference_by_rounds, difference_with};
 use crate::sizes::position_of_large;

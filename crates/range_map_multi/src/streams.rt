@@ -3,21 +3,19 @@ ghost use Rattle.std.specs.Prelude.{◌<◌, List, length, map, is_some, IfOk};
 ghost use Rattle.std.specs.List.{list_all, list_any};
 ghost use Rattle.blaze_table.specs.Entries.{Entry};
 ghost use Rattle.blaze_streams.specs.Sweeps.{IsSweep};
-ghost use Rattle.range_map_multi.specs.Many.{last_value, last_of_all, last_of_odd, IsChosenOfMany};
+ghost use Rattle.blaze_streams.specs.Many.{last_value, last_of_all, last_of_odd, IsChosenOfMany};
 ghost use Rattle.range_map_multi.specs.ManyJoins.{shown_row, shown_full_row, IsCallableAtRows};
 ghost use Rattle.range_map_multi.specs.ManyJoins.{IsManyJoined};
 
-use crate::merges::merged;
-use crate::operations::{Intersection, OddKeys, Union};
 use crate::parity::all_with_keys;
 use crate::parts::{all_parts_of, borrowed_lists};
 use crate::row_answers::{full_answers, inner_answers};
 use crate::rows::Shows;
 use blaze_int::Integer;
 use blaze_streams::{
-    MultiwayFullJoinMap, MultiwayInnerJoinMap, MultiwayIntersectionMap, MultiwaySweep,
-    MultiwaySymmetricDifferenceMap, MultiwayUnionMap, SortedDisjointMap, ValueCarrier,
-    intersection_of, sweep_of,
+    Intersection, MultiwayFullJoinMap, MultiwayInnerJoinMap, MultiwayIntersectionMap,
+    MultiwaySweep, MultiwaySymmetricDifferenceMap, MultiwayUnionMap, OddKeys, SortedDisjointMap,
+    Union, ValueCarrier, intersection_of, merged, sweep_of,
 };
 use std::alloc::{AllocError, Global};
 

@@ -1,6 +1,20 @@
-use Rattle.blaze_iters.proofs.Words.{refl}
+use Rattle.blaze_iters.proofs.Words.{◌≡◌, ℤ, List, [], Option, Some, None, refl, append-nil, IfNone, RangeEntry, Entry, ranges_left, shown_left, OpensFirst}
 use Rattle.blaze_iters.proofs.Steps.{moved_first, opens_first}
 use Rattle.blaze_iters.proofs.iter_map.take_first.Goals as goal
+
+module _ {K R V I : Type 0} (rank : K → ℤ) (shown : R → V) (left : I → List (Entry V)) (inner rest : I) (back : Option (RangeEntry K R)) (none : (left inner ≡ []) × (left rest ≡ [])) where
+  -- if no range is between, the range that is open at the back is the first
+  moved_back : ranges_left left (shown_left rank shown None inner back) ≡ ranges_left left (shown_left rank shown back rest None)
+  moved_back = rw (none.0, none.1) (simp append-nil)
+
+  -- the range that is open at the back is opened at the front
+  opens_back : OpensFirst left (shown_left rank shown None inner back) (shown_left rank shown None rest None)
+  opens_back = record { between = rw none.0 none.1; far = rw none.0 refl }
+
+-- a fact that holds in each case
+in_each : {A : Type 0} (o : Option A) (P : Type 0) → P → IfNone o P
+in_each None P p = p
+in_each (Some x) P p = tt
 
 pub returns-in-Some-clause-full : goal.returns-in-Some-clause-full
 returns-in-Some-clause-full g c =
@@ -20,3 +34,21 @@ pub returns-in-Some-clause-opens : goal.returns-in-Some-clause-opens
 returns-in-Some-clause-opens g c =
     let entries = g.met.I.SortedDisjointMap.gives _ _ _ c.in-Some.ensures.steps in
     opens_first _ _ _ _ refl entries refl
+
+pub returns-in-None-clause-left : goal.returns-in-None-clause-left
+returns-in-None-clause-left g c =
+    let none = g.met.I.SortedDisjointMap.gives _ _ _ c.in-None.ensures.steps in
+    rw (c.take.ensures.value, c.take.ensures.after) (moved_back g.T.Integer.rank g.VC.ValueCarrier.shown g.I.SortedDisjointMap.left c.args.inner.now c.next.new.self c.args.back.now none)
+
+pub returns-in-None-clause-full : goal.returns-in-None-clause-full
+returns-in-None-clause-full g c = rw (c.take.ensures.value, c.take.ensures.after) (c.requires.1, tt)
+
+pub returns-in-None-clause-opens : goal.returns-in-None-clause-opens
+returns-in-None-clause-opens g c =
+    let none = g.met.I.SortedDisjointMap.gives _ _ _ c.in-None.ensures.steps in
+    rw c.take.ensures.after (opens_back g.T.Integer.rank g.VC.ValueCarrier.shown g.I.SortedDisjointMap.left c.args.inner.now c.next.new.self c.args.back.now none)
+
+pub returns-in-None-clause-none : goal.returns-in-None-clause-none
+returns-in-None-clause-none g c =
+    let none = g.met.I.SortedDisjointMap.gives _ _ _ c.in-None.ensures.steps in
+    in_each c.take.result _ (rw (c.take.ensures.after, none.1) refl)

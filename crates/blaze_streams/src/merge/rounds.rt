@@ -2,12 +2,14 @@
 //! streams. A stream is part of its first merge as it was given, without a copy.
 ghost use Rattle.std.specs.Prelude.{◌<◌, map, IfOk};
 ghost use Rattle.std.specs.Vec.{vec_len};
-ghost use Rattle.range_map_multi.specs.Merges.{GivesEach};
+ghost use Rattle.blaze_streams.specs.Merges.{GivesEach};
 
-use crate::lists::list_of;
-use crate::operations::Operation;
+use crate::carrier::ValueCarrier;
+use crate::lists::canon_map::CanonMapIter;
+use crate::merge::list_of::list_of;
+use crate::merge::operations::Operation;
+use crate::sorted_disjoint_map::SortedDisjointMap;
 use blaze_int::Integer;
-use blaze_streams::{CanonMapIter, SortedDisjointMap, ValueCarrier};
 use std::alloc::{AllocError, Global};
 
 /// The result of an operation between at most three streams. If an allocation fails, the streams are dropped.

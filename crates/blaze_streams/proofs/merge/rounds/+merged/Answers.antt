@@ -1,6 +1,6 @@
-use Rattle.range_map_multi.proofs.Words.{◌<◌, length, map, arith, length-map, IfOk-weaker}
-use Rattle.range_map_multi.proofs.Many.{halves, both_given}
-use Rattle.range_map_multi.proofs.merges.+merged.Goals as goal
+use Rattle.blaze_streams.proofs.Words.{◌<◌, length, map, arith, length-map, IfOk-weaker}
+use Rattle.blaze_streams.proofs.RowParts.{halves, both_given}
+use Rattle.blaze_streams.proofs.merge.rounds.+merged.Goals as goal
 
 pub returns : goal.returns
 returns g t c =

@@ -1,6 +1,6 @@
-use Rattle.range_map_multi.proofs.Words.{IfOk-weaker}
-use Rattle.range_map_multi.proofs.Many.{odd_given}
-use Rattle.range_map_multi.proofs.operations.OddKeysOperation.merge.Goals as goal
+use Rattle.blaze_streams.proofs.Words.{IfOk-weaker}
+use Rattle.blaze_streams.proofs.RowParts.{odd_given}
+use Rattle.blaze_streams.proofs.merge.operations.OddKeysOperation.merge.Goals as goal
 
 pub returns : goal.returns
 returns g c =

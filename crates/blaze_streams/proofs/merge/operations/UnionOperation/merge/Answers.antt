@@ -1,6 +1,6 @@
-use Rattle.range_map_multi.proofs.Words.{IfOk-weaker}
-use Rattle.range_map_multi.proofs.Many.{union_given}
-use Rattle.range_map_multi.proofs.operations.UnionOperation.merge.Goals as goal
+use Rattle.blaze_streams.proofs.Words.{IfOk-weaker}
+use Rattle.blaze_streams.proofs.RowParts.{union_given}
+use Rattle.blaze_streams.proofs.merge.operations.UnionOperation.merge.Goals as goal
 
 pub returns : goal.returns
 returns g c =

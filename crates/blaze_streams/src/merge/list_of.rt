@@ -1,8 +1,10 @@
 //! Streams as lists, which all operations between two take.
 ghost use Rattle.std.specs.Prelude.{◌≡◌, IfOk};
 
+use crate::carrier::ValueCarrier;
+use crate::lists::canon_map::CanonMapIter;
+use crate::sorted_disjoint_map::SortedDisjointMap;
 use blaze_int::Integer;
-use blaze_streams::{CanonMapIter, SortedDisjointMap, ValueCarrier};
 use std::alloc::{AllocError, Global};
 
 /// The ranges that a stream has not yet given, as a list.

@@ -1,5 +1,6 @@
-use Rattle.range_map_multi.proofs.Words.{◌∙◌, sym, subst, IsFinite, IsRangeMap, shown_range, taken_more, taken_all}
-use Rattle.range_map_multi.proofs.lists.list_of.Goals as goal
+use Rattle.blaze_streams.proofs.Words.{◌∙◌, sym, subst, IsFinite, IsRangeMap, shown_range}
+use Rattle.blaze_streams.proofs.ItemsTaken.{taken_more, taken_all}
+use Rattle.blaze_streams.proofs.merge.list_of.list_of.Goals as goal
 
 pub loop-item-init-derived : goal.loop-item-init-derived
 loop-item-init-derived g c = (g.met.I.SortedDisjointMap.ready _, subst IsFinite (sym (g.met.I.SortedDisjointMap.counted _)) tt)

@@ -1,6 +1,6 @@
-use Rattle.range_map_multi.proofs.Words.{◌≡◌, ◌∙◌, ◌++◌, [], ◌∷◌, List, map, refl, ap, sym, arith, nil_from_length, IfOk-weaker, GivesEach}
-use Rattle.range_map_multi.proofs.Many.{both_given}
-use Rattle.range_map_multi.proofs.merges.merged_few.Goals as goal
+use Rattle.blaze_streams.proofs.Words.{◌≡◌, ◌∙◌, ◌++◌, [], ◌∷◌, List, map, refl, ap, subst, sym, arith, nil_from_length, IfOk-weaker, GivesEach}
+use Rattle.blaze_streams.proofs.RowParts.{both_given}
+use Rattle.blaze_streams.proofs.merge.rounds.merged_few.Goals as goal
 
 -- what was taken from the end of a list
 taken : {A : Type 0} (all rest is : List A) (last : A) → all ≡ rest ++ last ∷ [] → rest ≡ is → all ≡ is ++ last ∷ []
@@ -29,3 +29,13 @@ returns g c =
     let none : c.pop-2.new.self.items ≡ [] = nil_from_length c.pop-2.new.self.items (omega (arith, c.in-None.ensures.cases, c.pop-2.new.self.ok.0)) in
     let all = taken _ _ _ last c.in-Some.ensures.items (taken _ _ _ middle c.in-Some-pop.ensures.items none) in
     both_given g.O.Operation.gives (left middle ∷ []) (left last ∷ []) _ (left middle) (left last) _ (sym (ap (map left) all)) (omega arith) (omega arith) (λ k. one _) (λ k. one _) c.in_ok-both.ensures
+
+pub returns-in_default-pop : goal.returns-in_default-pop
+returns-in_default-pop g c =
+    let left = g.I.SortedDisjointMap.left in
+    let gives = g.O.Operation.gives in
+    let last = c.in-Some.last in
+    let none : c.pop.new.self.items ≡ [] = nil_from_length c.pop.new.self.items (omega (arith, c.in_default-pop.ensures.cases, c.pop.new.self.ok.0)) in
+    let all = taken _ _ _ last c.in-Some.ensures.items none in
+    IfOk-weaker c.list_of.result _ _
+    (λ list is. subst (λ ls. GivesEach gives (map left ls) list) (sym all) (subst (GivesEach gives (left last ∷ [])) (sym is) (λ k. g.met.O.Operation.of_one _))) c.list_of.ensures

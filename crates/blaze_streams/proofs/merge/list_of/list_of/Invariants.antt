@@ -1,5 +1,5 @@
-use Rattle.range_map_multi.proofs.Words.{◌≡◌, ◌++◌, shown_ranges}
-use Rattle.range_map_multi.proofs.lists.list_of.Given as goal
+use Rattle.blaze_streams.proofs.Words.{◌≡◌, ◌++◌, shown_ranges}
+use Rattle.blaze_streams.proofs.merge.list_of.list_of.Given as goal
 
 -- what was taken, and what is left, are all
 abbrev pub invariant-loop-item : goal.invariant-loop-item

@@ -1,6 +1,6 @@
-use Rattle.range_map_multi.proofs.Words.{IfOk-weaker}
-use Rattle.range_map_multi.proofs.Many.{intersection_given}
-use Rattle.range_map_multi.proofs.operations.IntersectionOperation.merge.Goals as goal
+use Rattle.blaze_streams.proofs.Words.{IfOk-weaker}
+use Rattle.blaze_streams.proofs.RowParts.{intersection_given}
+use Rattle.blaze_streams.proofs.merge.operations.IntersectionOperation.merge.Goals as goal
 
 pub returns : goal.returns
 returns g c =

@@ -1,14 +1,14 @@
 //! Operations between many streams, each by an operation between two.
 ghost use Rattle.std.specs.Prelude.{◌≡◌, [], ◌∷◌, List, Option, None, Some, refl, is_some, IfOk};
 ghost use Rattle.blaze_table.specs.Entries.{SameOption};
-ghost use Rattle.range_map_multi.specs.Many.{last_value, last_of_all, has_odd};
-ghost use Rattle.range_map_multi.specs.Merges.{GivesBoth};
+ghost use Rattle.blaze_streams.specs.Many.{last_value, last_of_all, has_odd};
+ghost use Rattle.blaze_streams.specs.Merges.{GivesBoth};
 
+use crate::carrier::ValueCarrier;
+use crate::lists::canon_map::CanonMapIter;
+use crate::merge::union::{intersection_of, symmetric_difference_of, union_of};
+use crate::sorted_disjoint_map::SortedDisjointMap;
 use blaze_int::Integer;
-use blaze_streams::{
-    CanonMapIter, SortedDisjointMap, ValueCarrier, intersection_of, symmetric_difference_of,
-    union_of,
-};
 use std::alloc::{AllocError, Global};
 
 /// An operation between many streams whose result at a key depends only on what they have there, first to last.
