@@ -10,6 +10,14 @@ module _ {V : Type 0} where
   across_above b h [] u = tt
   across_above b h (e ∷ es) u = (omega (arith, ints, u.0, u.1), u.1, u.2, u.3)
 
+  -- no entry is left: all keys are a gap
+  pub one_gap : (l h : ℤ) (es : List (Entry V)) (all : List (Entry (Unit {0}))) → es ≡ [] → IsGapWalk l h es → gaps_within l h es ≡ all → all ≡ entry l h tt ∷ []
+  one_gap l h es all none w same =
+      sym same
+      ∙ ap (gaps_within l h) none
+      ∙ ap (λ b. cond b (entry l (h +ℤ pos 1 -ℤ pos 1) tt ∷ []) []) (lt_true l (h +ℤ pos 1) (omega (arith, ints, w.order)))
+      ∙ ap (λ z. entry l z tt ∷ []) (omega (arith, ints))
+
   -- ---- from the back
 
   -- the others lie below the last
@@ -100,15 +108,33 @@ module _ {T : Type 0} (rank : T → ℤ) where
 
     -- the first entry has keys from s up to t: `under` are the keys below it that are left, `over` those above
     module _ (l h s t : ℤ) (e : Entry V) (es old : List (Entry V)) (under over : Option (T × T)) where
+      pub front_gaps : (all : List (Entry (Unit {0}))) → old ≡ e ∷ es → s ≡ e.lo → t ≡ e.hi → gaps_within l h old ≡ all → AreKeysFrom rank l (s -ℤ pos 1) under → AreKeysFrom rank (t +ℤ pos 1) h over → all ≡ keys_list rank under ++ gaps_left rank over es
+      front_gaps all p q r same u o =
+          let from = subst (λ z. AreKeysFrom rank l (z -ℤ pos 1) under) q u in
+          let to = subst (λ z. AreKeysFrom rank (z +ℤ pos 1) h over) r o in
+          let end : e.lo ≡ e.lo -ℤ pos 1 +ℤ pos 1 = omega (arith, ints) in
+          sym same
+          ∙ ap (gaps_within l h) p
+          ∙ ap (λ G. G ++ cond (int_lt e.hi h) (gaps_within (e.hi +ℤ pos 1) h es) []) (ap (gap_before l) end ∙ gap_is l (e.lo -ℤ pos 1) under from)
+          ∙ ap (λ G. keys_list rank under ++ G)
+          (gaps_are_left (e.hi +ℤ pos 1) h (int_lt e.hi h) over es to (λ a. lt_true e.hi h (omega (arith, ints))) (λ a. lt_false e.hi h (omega (arith, ints))))
+
+      pub front_walk : old ≡ e ∷ es → t ≡ e.hi → IsGapWalk l h old → AreKeysFrom rank (t +ℤ pos 1) h over → IfSome over (λ p. IsGapWalk (rank p.0) (rank p.1) es)
+      front_walk p r w o =
+          let to = subst (λ z. AreKeysFrom rank (z +ℤ pos 1) h over) r o in
+          let next = (subst (IsGapWalk l h) p w).entries in
+          walk_kept (e.hi +ℤ pos 1) h over es to (λ a. record { order = a; entries = across_above e.hi h es next.3 })
+
       -- the same of the last entry
-      pub back_gaps : old ≡ es ++ e ∷ [] → s ≡ e.lo → t ≡ e.hi → IsGapWalk l h old → AreKeysFrom rank l (s -ℤ pos 1) under → AreKeysFrom rank (t +ℤ pos 1) h over
-          → gaps_within l h old ≡ gaps_left rank under es ++ keys_list rank over
-      back_gaps p q r w u o =
+      pub back_gaps : (all : List (Entry (Unit {0}))) → old ≡ es ++ e ∷ [] → s ≡ e.lo → t ≡ e.hi → IsGapWalk l h old → gaps_within l h old ≡ all → AreKeysFrom rank l (s -ℤ pos 1) under → AreKeysFrom rank (t +ℤ pos 1) h over
+          → all ≡ gaps_left rank under es ++ keys_list rank over
+      back_gaps all p q r w same u o =
           let from = subst (λ z. AreKeysFrom rank l (z -ℤ pos 1) under) q u in
           let to = subst (λ z. AreKeysFrom rank (z +ℤ pos 1) h over) r o in
           let below : cond (int_lt l e.lo) (gaps_within l (e.lo -ℤ pos 1) es) [] ≡ gaps_left rank under es =
           gaps_are_left l (e.lo -ℤ pos 1) (int_lt l e.lo) under es from (λ a. lt_true l e.lo (omega (arith, ints))) (λ a. lt_false l e.lo (omega (arith, ints))) in
-          ap (gaps_within l h) p
+          sym same
+          ∙ ap (gaps_within l h) p
           ∙ gaps_back l h es e (subst (IsGapWalk l h) p w).entries
           ∙ ap (λ G. G ++ gap_before (e.hi +ℤ pos 1) (h +ℤ pos 1)) below
           ∙ ap (λ G. gaps_left rank under es ++ G) (gap_is (e.hi +ℤ pos 1) h over to)

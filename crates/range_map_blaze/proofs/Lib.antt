@@ -3,7 +3,6 @@ pub mod Paints
 pub mod Texts
 pub mod Universal
 pub mod Streams
-pub mod Taken
 pub mod Made
 pub mod Choices
 pub mod Valued

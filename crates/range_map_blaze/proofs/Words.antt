@@ -44,6 +44,7 @@ pub use Rattle.blaze_streams.proofs.CarriedJoins.{itself_alike, exact_join}
 pub use Rattle.blaze_streams.proofs.Filled.{fill_made}
 pub use Rattle.blaze_streams.proofs.FoundSegments.{option_same}
 pub use Rattle.blaze_streams.proofs.GapLists.{no_gap, gaps_complement, rank_of_next}
+pub use Rattle.blaze_streams.proofs.ItemsTaken.{taken_more, taken_all}
 pub use Rattle.blaze_streams.proofs.JoinLaws.{answers_keep_keys, left_join_has_left_keys, full_join_is_inner}
 pub use Rattle.blaze_streams.proofs.LengthsLeft.{lengths_left, all_less}
 pub use Rattle.blaze_streams.proofs.Paired.{joined_all}

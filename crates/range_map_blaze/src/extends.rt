@@ -1,13 +1,11 @@
-//! Changes by many pairs, and by the entries of another map: painted in order, or filled into the gaps.
+//! Changes by many pairs, and by the entries of another map: painted in order.
 ghost use Rattle.std.specs.Iterator.{ExtendsWithItems, IsFinite};
-ghost use Rattle.std.specs.Prelude.{map, ◌≡◌, [], Ok, OnOk, OnErr, ◌≤ℤ◌};
+ghost use Rattle.std.specs.Prelude.{map, ◌≡◌, [], Ok, OnOk, OnErr};
 ghost use Rattle.blaze_streams.specs.Ranges.{shown_range};
-ghost use Rattle.blaze_table.specs.Entries.{entry};
-ghost use Rattle.blaze_table.specs.Filled.{IsFilled};
 ghost use Rattle.blaze_table.specs.Painted.{ClonesAreAlike};
 ghost use Rattle.blaze_table.specs.Work.{IsCounted};
-ghost use Rattle.range_map_blaze.specs.Extended.{shown_point, ArePaintedInTurn, IsExtended, IsPartPaintedInTurn};
-ghost use Rattle.range_map_blaze.specs.FilledFrom.{IsFilledFrom, IsPartlyFilledFrom};
+ghost use Rattle.range_map_blaze.specs.Extended.{shown_point, ArePaintedInTurn, IsExtended, IsPairPainted};
+ghost use Rattle.range_map_blaze.specs.Extended.{IsPartPaintedInTurn};
 
 use crate::map::RangeMapBlaze;
 use crate::pairs::Pair;
@@ -174,6 +172,24 @@ impl<T: Integer, V: Eq + Clone> RangeMapBlaze<T, V> {
         self.paint_ranges(other.range_values())
     }
 
+    // Paints a range of a stream with its carrier's value. If an allocation fails, the map is unchanged.
+    pub(crate) fn paint_range<VC: ValueCarrier<Value = V>>(
+        &mut self,
+        range: RangeInclusive<T>,
+        carrier: VC,
+    ) -> Result<(), AllocError>
+        requires can { VC.can_carry }
+        requires clones { ClonesAreAlike V.is_clone V.eq }
+        ensures ok { OnOk result (IsPairPainted V.eq T.low T.high
+            (shown_range T.rank VC.shown (range, carrier)) self.old.entries self.new.entries) }
+        ensures err { OnErr result (self.new.entries ≡ self.old.entries) }
+        ensures counted { IsCounted self.old self.new }
+    {
+        let (start, end) = range.into_inner();
+        let value = carrier.into_value()?;
+        self.paint_pair(RangeEntry { start, end, value })
+    }
+
     // Paints the ranges of a stream, ascending. Owned and borrowed entries share this loop.
     pub(crate) fn paint_ranges<VC: ValueCarrier<Value = V>, S: SortedDisjointMap<T, VC>>(
         &mut self,
@@ -189,12 +205,7 @@ impl<T: Integer, V: Eq + Clone> RangeMapBlaze<T, V> {
     {
         self.in_hand();
         for (range, carrier) in ranges {
-            let (start, end) = range.into_inner();
-            self.paint_pair(RangeEntry {
-                start,
-                end,
-                value: carrier.into_value()?,
-            })?;
+            self.paint_range(range, carrier)?;
         }
         Ok(())
     }
@@ -270,69 +281,6 @@ impl<T: Integer, V: Eq + Clone> RangeMapBlaze<T, V> {
     {
         self.extend_with(other)?;
         other.clear();
-        Ok(())
-    }
-
-    /// Sets the values of the keys of `other` that have none in this map. Where both maps have a value, that of this map remains.
-    /// The entries of `other` are filled in ascending, each as by `ranges_insert_absent`, with clones of their values.
-    ///
-    /// Does not allocate if `other` is empty. If an allocation fails, a first part of the entries is filled in, perhaps none.
-    /// O(log n) for each entry of `other` and each gap that it fills, O(1) for each entry in its range, for n entries.
-    ///
-    /// ```
-    /// let blocks = RangeMapBlaze::from_ranges(alloc, [(0..=12, 'z')])?;
-    /// map.extend_absent(&blocks)?;
-    /// map; // (0..=9, 'z'), (10..=14, 'a'), (15..=15, 'b'), (30..=39, 'c')
-    /// ```
-    pub fn extend_absent(&mut self, other: &Self) -> Result<(), AllocError>
-        requires { ClonesAreAlike V.is_clone V.eq }
-        ensures ok { OnOk result (IsFilledFrom V.eq T.low T.high other.now.entries self.old.entries
-            self.new.entries) }
-        ensures empty { other.now.entries ≡ [] → (result ≡ Ok tt) × (self.new ≡ self.old) }
-        ensures err { OnErr result
-            (IsPartlyFilledFrom V.eq T.low T.high other.now.entries self.old.entries
-            self.new.entries) }
-        ensures counted { IsCounted self.old self.new }
-    {
-        self.in_hand();
-        if other.is_empty() {
-            return Ok(());
-        }
-        self.fill_ranges(other.range_values())
-    }
-
-    // Sets the value of every key from `start` up to `end` that has none.
-    fn fill(&mut self, start: T, end: T, value: V) -> Result<(), AllocError>
-        requires order { T.rank start ≤ℤ T.rank end }
-        requires clones { ClonesAreAlike V.is_clone V.eq }
-        ensures ok { OnOk result (IsFilled V.eq T.low T.high
-            (entry (T.rank start) (T.rank end) value) self.old.entries self.new.entries) }
-        ensures err { OnErr result (self.new.entries ≡ self.old.entries) }
-        ensures counted { IsCounted self.old self.new }
-    {
-        let _ = self.table.fill_absent(start, end, value)?;
-        Ok(())
-    }
-
-    // Fills the gaps with the ranges of a stream, ascending. `extend_absent` and the union share this loop.
-    pub(crate) fn fill_ranges<VC: ValueCarrier<Value = V>, S: SortedDisjointMap<T, VC>>(
-        &mut self,
-        ranges: S,
-    ) -> Result<(), AllocError>
-        requires can { VC.can_carry }
-        requires clones { ClonesAreAlike V.is_clone V.eq }
-        ensures ok { OnOk result (IsFilledFrom V.eq T.low T.high (S.left ranges) self.old.entries
-            self.new.entries) }
-        ensures err { OnErr result (IsPartlyFilledFrom V.eq T.low T.high (S.left ranges)
-            self.old.entries self.new.entries) }
-        ensures counted { IsCounted self.old self.new }
-    {
-        self.in_hand();
-        ranges.in_hand();
-        for (range, carrier) in ranges {
-            let (start, end) = range.into_inner();
-            self.fill(start, end, carrier.into_value()?)?;
-        }
         Ok(())
     }
 }

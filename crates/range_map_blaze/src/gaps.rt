@@ -14,8 +14,8 @@ ghost use Rattle.range_map_blaze.specs.OneRange.{one_range};
 ghost use Rattle.range_map_blaze.specs.Somewhere.{AreGapsSomewhere};
 ghost use Rattle.range_map_blaze.specs.Within.{AreKeysFrom};
 
-use crate::iterators::{Overlapping, entries_on, no_entries};
 use crate::map::RangeMapBlaze;
+use crate::overlapping::{Overlapping, entries_on, no_entries};
 use blaze_int::compare::is_below;
 use blaze_int::{Integer, bounds_of};
 use blaze_streams::{CanonMapIter, RangeValuesIter};
@@ -134,8 +134,8 @@ impl<'a, T: Integer, V: Eq> Iterator for Gaps<'a, T, V> {
             };
             let (start, end) = range.into_inner();
             self.left = keys_above(end, last);
-            if let Some((gap_start, gap_end)) = keys_below(first, start) {
-                return Some(gap_start..=gap_end);
+            if let Some(gap) = keys_below(first, start) {
+                return Some(gap.0..=gap.1);
             }
         }
         None

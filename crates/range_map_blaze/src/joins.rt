@@ -32,8 +32,7 @@ pub fn map_of<T: Integer, W: Eq + Clone>(
         let (start, end) = range.into_inner();
         entries.push((start, end, value))?;
     }
-    let table = RangeTable::from_canonical(alloc, entries)?;
-    Ok(RangeMapBlaze { table })
+    RangeMapBlaze::from_canonical(alloc, entries)
 }
 
 /// The map of a stream's ranges, each with the result of a closure at its value. `C` says which arguments the closure takes. It
@@ -59,8 +58,7 @@ fn map_of_answers<
         let answer = C::ask(&mut f, carrier)?;
         push_entry(&mut entries, start, end, answer)?;
     }
-    let table = RangeTable::from_canonical(alloc, entries)?;
-    Ok(RangeMapBlaze { table })
+    RangeMapBlaze::from_canonical(alloc, entries)
 }
 
 /// The map of a table's keys, each with the result of a closure at its entry's value. `C` says which arguments the closure takes.
@@ -72,7 +70,7 @@ pub(crate) fn transformed<
     F: Drop,
     C: Asks<F, &'a V, W>,
 >(alloc: Global, table: &'a RangeTable<T, V>, f: F) -> Result<RangeMapBlaze<T, W>, AllocError>
-    requires have { EachValue C.has_arguments table.now.entries }
+    requires have { (value : _) → C.has_arguments value }
     requires callable { IsCallableAtEachValue C.shows C.calls f (values table.now.entries) }
     ensures { IfOk result (IsMade (IsTransformed C.shows C.calls W.eq T.low T.high f
         table.now.entries)) }

@@ -5,15 +5,20 @@ mod changes;
 mod compare;
 mod display;
 mod extends;
+mod fills;
+mod from_streams;
 mod gaps;
 mod iterators;
 mod joining;
 mod joins;
 pub mod laws;
+mod look_ups;
 mod make;
 mod map;
 mod operators;
+mod overlapping;
 mod pairs;
+mod range;
 mod relations;
 mod takes;
 mod try_joins;
@@ -33,10 +38,10 @@ pub use blaze_streams::{
 };
 pub use blaze_table::{IntoRangesIter, RangeSetBlaze, RangesIter};
 pub use compare::turns::Turns;
+pub use from_streams::IntoRangeMapBlaze;
 pub use gaps::Gaps;
-pub use iterators::Overlapping;
-pub use make::IntoRangeMapBlaze;
 pub use map::RangeMapBlaze;
+pub use overlapping::Overlapping;
 pub use within::Within;
 
 // For `range_map_multi` alone, whose joins give such streams.

@@ -1,9 +1,8 @@
-//! Maps made of pairs in order, where a later pair wins, and of streams.
+//! Maps made of pairs in order, where a later pair wins.
 ghost use Rattle.std.specs.Iterator.{IsFiniteIterable};
 ghost use Rattle.std.specs.Prelude.{map, IfOk};
 ghost use Rattle.blaze_streams.specs.Ranges.{shown_range};
 ghost use Rattle.blaze_table.specs.CanonicalOf.{IsCanonicalOf};
-ghost use Rattle.blaze_table.specs.Entries.{SameEntries};
 ghost use Rattle.blaze_table.specs.Painted.{ClonesAreAlike};
 ghost use Rattle.range_map_blaze.specs.Collected.{CollectsItems};
 ghost use Rattle.range_map_blaze.specs.Extended.{shown_point};
@@ -14,8 +13,6 @@ use crate::pairs::{
     BorrowedPair, Pair, borrowed_pairs_of, map_of_borrowed_pairs, map_of_pairs, pairs_of,
 };
 use blaze_int::Integer;
-use blaze_streams::{SortedDisjointMap, ValueCarrier};
-use blaze_table::RangeTable;
 use std::alloc::{AllocError, Global};
 use std::ops::RangeInclusive;
 
@@ -266,49 +263,4 @@ impl<T: Integer, V: Eq + Clone> RangeMapBlaze<T, V> {
         let new = Self::from_points(alloc, points)?;
         Ok(new)
     }
-
-    /// Returns the map of the ranges that a stream has not yet given, each with the value of its carrier. A carrier that borrows
-    /// its value clones it. Allocates. If an allocation fails, the stream is dropped. O(n) for n ranges.
-    ///
-    /// ```
-    /// RangeMapBlaze::from_sorted_disjoint_map(alloc, map.range_values())?; // (10..=14, 'a'), (15..=15, 'b'), (30..=39, 'c')
-    /// ```
-    pub fn from_sorted_disjoint_map<VC: ValueCarrier<Value = V>, I: SortedDisjointMap<T, VC>>(
-        alloc: Global,
-        stream: I,
-    ) -> Result<Self, AllocError>
-        requires { VC.can_carry }
-        ensures { IfOk result (IsMade (SameEntries V.eq (I.left stream))) }
-    {
-        stream.in_hand();
-        let mut entries = Vec::new(alloc);
-        for (range, carrier) in stream {
-            let (start, end) = range.into_inner();
-            entries.push((start, end, carrier.into_value()?))?;
-        }
-        let table = RangeTable::from_canonical(alloc, entries)?;
-        Ok(RangeMapBlaze { table })
-    }
 }
-
-/// A stream that can become a map. Every `SortedDisjointMap` is one.
-pub trait IntoRangeMapBlaze<T: Integer, VC: ValueCarrier>: SortedDisjointMap<T, VC> {
-    /// Returns the map of the ranges that the stream has not yet given, each with the value of its carrier. A carrier that
-    /// borrows its value clones it. Allocates. If an allocation fails, the stream is dropped. O(n) for n ranges.
-    ///
-    /// ```
-    /// let mut entries = map.range_values();
-    /// entries.next(); // Some((10..=14, 'a'))
-    /// entries.into_range_map_blaze(alloc)?; // (15..=15, 'b'), (30..=39, 'c')
-    /// ```
-    fn into_range_map_blaze(self, alloc: Global) -> Result<RangeMapBlaze<T, VC::Value>, AllocError>
-    where
-        Self: Sized,
-        requires { VC.can_carry }
-        ensures { IfOk result (IsMade (SameEntries VC.Value.eq (Self.left self))) }
-    {
-        RangeMapBlaze::from_sorted_disjoint_map(alloc, self)
-    }
-}
-
-impl<T: Integer, VC: ValueCarrier, I: SortedDisjointMap<T, VC>> IntoRangeMapBlaze<T, VC> for I {}

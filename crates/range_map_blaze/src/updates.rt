@@ -128,7 +128,7 @@ impl<T: Integer, V: Eq + Clone, F: FnMut(Option<&V>) -> Result<Option<V>, AllocE
 > {
     // Calls the function at the piece from `start` up to `end`, which has the value `old`, or none.
     fn ask(&mut self, start: T, end: T, old: Option<&V>) -> Result<(), AllocError>
-        requires { TakesValue (λ a. shown_option (λ v. v.now) a.0) F.FnMut self.old.f
+        requires callable { TakesValue (λ a. shown_option (λ v. v.now) a.0) F.FnMut self.old.f
             (shown_option (λ v. v.now) old) }
         ensures { OnOk result (IsPieceAsked (λ a. shown_option (λ v. v.now) a.0) F.FnMut V.eq
             (entry (T.rank start) (T.rank end) (shown_option (λ v. v.now) old.entry)) self.old.f self.new.f
@@ -143,7 +143,7 @@ impl<T: Integer, V: Eq + Clone, F: FnMut(Option<&V>) -> Result<Option<V>, AllocE
 
     // Calls the function at the keys from `next` on below `start`, if there are any. They are a gap.
     fn ask_below(&mut self, next: Option<T>, start: T) -> Result<(), AllocError>
-        requires { rank_or_end T.rank T.high next <ℤ T.rank start
+        requires callable { rank_or_end T.rank T.high next <ℤ T.rank start
             → TakesValue (λ a. shown_option (λ v. v.now) a.0) F.FnMut self.old.f None }
         ensures { OnOk result (ArePiecesAsked (λ a. shown_option (λ v. v.now) a.0) F.FnMut V.eq
             (none_before (rank_or_end T.rank T.high next) (T.rank start)) self.old.f self.new.f
@@ -162,7 +162,7 @@ impl<T: Integer, V: Eq + Clone, F: FnMut(Option<&V>) -> Result<Option<V>, AllocE
 
     // Calls the function at the keys from `next` up to `end`, if there are any. They are a gap.
     fn ask_up_to(&mut self, next: Option<T>, end: T) -> Result<(), AllocError>
-        requires { rank_or_end T.rank T.high next <ℤ (T.rank end +ℤ pos 1)
+        requires callable { rank_or_end T.rank T.high next <ℤ (T.rank end +ℤ pos 1)
             → TakesValue (λ a. shown_option (λ v. v.now) a.0) F.FnMut self.old.f None }
         ensures { OnOk result (ArePiecesAsked (λ a. shown_option (λ v. v.now) a.0) F.FnMut V.eq
             (none_before (rank_or_end T.rank T.high next) (T.rank end +ℤ pos 1)) self.old.f self.new.f

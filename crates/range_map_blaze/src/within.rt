@@ -10,8 +10,8 @@ ghost use Rattle.blaze_table.specs.Entries.{Entry, at};
 ghost use Rattle.blaze_table.specs.Whole.{IsWhole, YieldsWholeFirst, YieldsWholeLast};
 ghost use Rattle.range_map_blaze.specs.EntriesWithin.{IsWithin, IsWithinSomewhere, IsCountSomewhere};
 
-use crate::iterators::{Overlapping, entries_on, no_entries};
 use crate::map::RangeMapBlaze;
+use crate::overlapping::{Overlapping, entries_on, no_entries};
 use blaze_int::compare::{greater, length, lesser};
 use blaze_int::{Integer, SafeLength, bounds_of};
 use blaze_table::RangeTable;

@@ -1,9 +1,27 @@
 -- The pieces of a range, as a walk over the entries meets them, and the edits that a function's answers at all of them give.
-use Rattle.range_map_blaze.proofs.Words.{AllocError, ◌≡◌, ℤ, pos, ◌+ℤ◌, ◌-ℤ◌, ◌≤ℤ◌, ◌<ℤ◌, Bool, cond, List, [], ◌∷◌, ◌++◌, map, Option, Some, None, Result, refl, ◌∙◌, sym, ap, subst, append_assoc, append-nil, arith, inl, ints, map-append, same_Some, IsEquivalence, options_equiv, Mut, int_max, int_min, option_eq, option_or, IsRangeMap, HasEnd, left_with_right, Entry, entry, at, SameOption, after, above_low, at_in, by_place, canonical, one_per_run, canonical_after, canonical_before, above_after, values, TakesValue, none_before, filled_entries, IsFilledWithNone, gap_before, lt_true, fill_made, no_gap, AreEdits, AreEndsOf, AreEntriesAsked, ArePiecesAsked, IsPieceAsked, answer_or, updated, IsCallableAtPieces, within}
+use Rattle.range_map_blaze.proofs.Words.{AllocError, ◌≡◌, ℤ, pos, ◌+ℤ◌, ◌-ℤ◌, ◌≤ℤ◌, ◌<ℤ◌, Bool, true, false, cond, List, [], ◌∷◌, ◌++◌, map, Option, Some, None, Ok, Err, OnOk, Result, refl, ◌∙◌, sym, ap, subst, append_assoc, append-nil, arith, inl, ints, map-append, same_Some, IsEquivalence, options_equiv, Mut, int_lt, int_le, int_max, int_min, option_eq, option_or, IsRangeMap, HasEnd, left_with_right, Entry, entry, at, SameOption, after, above_low, at_in, by_place, canonical, one_per_run, canonical_after, canonical_before, above_after, ending_from, values, TakesValue, none_before, filled_entries, IsFilledWithNone, gap_before, lt_true, lt_holds, lt_fails, le_holds, fill_made, no_gap, AreEdits, AreEndsOf, AreEntriesAsked, ArePiecesAsked, IsPieceAsked, answer_or, updated, IsCallableAtPieces, within}
+use Rattle.blaze_int.proofs.Comparisons.{le_fails}
+use Rattle.blaze_streams.proofs.GapLists.{gap_there}
 use Rattle.range_map_blaze.proofs.GapsWithin.{keys_between}
 use Rattle.range_map_blaze.proofs.JoinedKeys.{below_all, above_all}
-use Rattle.range_map_blaze.proofs.Paints.Following.{content_within, within_next, IsOnward}
+use Rattle.range_map_blaze.proofs.Paints.Following.{content_within, onward_next, whole_first, within_next, within_over, IsOnward}
 use Rattle.range_map_blaze.proofs.Edits.Asked.{asked_one, asked_then, some_calls, results, results_count, results_turns, answers_at, no_edit, made, AreBelow, Has}
+
+-- ---- what the result of a test says
+
+pub by_below : (a b : ℤ) (t : Bool) → t ≡ int_lt a b → t ≡ true → a <ℤ b
+by_below a b t p q = lt_holds a b (sym p ∙ q)
+
+pub by_not_below : (a b : ℤ) (t : Bool) → t ≡ int_lt a b → t ≡ false → b ≤ℤ a
+by_not_below a b t p q = lt_fails a b (sym p ∙ q)
+
+pub by_at_most : (a b : ℤ) (t : Bool) → t ≡ int_le a b → t ≡ true → a ≤ℤ b
+by_at_most a b t p q = le_holds a b (sym p ∙ q)
+
+pub by_not_at_most : (a b : ℤ) (t : Bool) → t ≡ int_le a b → t ≡ false → b <ℤ a
+by_not_at_most a b t p q = le_fails a b (sym p ∙ q)
+
+-- ---- pieces
 
 -- the pieces of the keys from l to h, by structure
 abbrev pub pieces : {V : Type 0} → ℤ → ℤ → List (Entry V) → List (Entry (Option V))
@@ -31,6 +49,22 @@ pub next_piece : {V : Type 0} (eq : V → V → Bool) (l h a b : ℤ) (left rest
 next_piece eq l h a b left rest e is o w u starts ends =
     ap (within l h) is ∙ within_next eq l h e rest (subst (IsOnward eq l) is o) w u
     ∙ ap (λ z. entry z (int_min h e.hi) e.value ∷ within l h rest) (sym starts) ∙ ap (λ z. entry a z e.value ∷ within l h rest) (sym ends)
+
+module _ {F A V : Type 0} (shows : A → Option V) (g : Mut F A (Result (Option V) AllocError)) (eq : V → V → Bool) where
+  -- a call at the keys from a up to b, which are all keys from n to before m, and a gap
+  pub gap_asked : {R E : Type 0} (r : Result R E) (n a b m : ℤ) (old : Option V) (f f' : F) (edits new : List (Entry (Option V))) → n ≡ a → a ≤ℤ b → (b +ℤ pos 1) ≡ m → old ≡ None → OnOk r (IsPieceAsked shows g eq (entry a b old) f f' edits new) → OnOk r (ArePiecesAsked shows g eq (none_before n m) f f' edits new)
+  gap_asked (Ok x) n a b m old f f' edits new p w q none asked =
+      let piece : entry a b old ∷ [] ≡ none_before n m = ap (λ o. entry a b o ∷ []) none ∙ sym (ap (map (λ e. entry e.lo e.hi None)) (ap (λ k. gap_before k m) p ∙ gap_there a m b w (omega (arith, ints)))) in
+      subst (λ xs. ArePiecesAsked shows g eq xs f f' edits new) piece (asked_one shows g eq (entry a b old) f f' edits new asked)
+  gap_asked (Err e) n a b m old f f' edits new p w q none asked = tt
+
+  -- its facts on the old value in one, as `search` finds them
+  pub gap_by_call : {R E : Type 0} (r : Result R E) (n a b m : ℤ) (f f' : F) (edits new : List (Entry (Option V))) → n ≡ a → a ≤ℤ b → (b +ℤ pos 1) ≡ m → (old : Option V) × (old ≡ None) × OnOk r (IsPieceAsked shows g eq (entry a b old) f f' edits new) → OnOk r (ArePiecesAsked shows g eq (none_before n m) f f' edits new)
+  gap_by_call r n a b m f f' edits new p w q asked = gap_asked r n a b m asked.0 f f' edits new p w q asked.1 asked.2
+
+  -- no call, where no key is from n to before m
+  pub gap_not_asked : (n m : ℤ) (f : F) (edits : List (Entry (Option V))) → m ≤ℤ n → ArePiecesAsked shows g eq (none_before n m) f f edits edits
+  gap_not_asked n m f edits w = subst (λ xs. ArePiecesAsked shows g eq xs f f edits edits) (sym (ap (map (λ e. entry e.lo e.hi None)) (no_gap n m w))) (refl, refl)
 
 -- an entry as a piece
 abbrev pub piece_of : {V : Type 0} → Entry V → Entry (Option V)
@@ -90,6 +124,53 @@ module _ {F A V : Type 0} (shows : A → Option V) (g : Mut F A (Result (Option 
     are_pieces = subst (IsFilledWithNone eq l h old) (sym u.parts ∙ ap (λ es. u.done ++ filled_entries n h es) none) filled;
     asked = u.asked;
   }
+
+  -- ---- a walk over the entries
+
+  -- the entries that are left are those on the keys from n on, and the function was called at the pieces before
+  pub record IsWalked (n : ℤ) (left : List (Entry V)) (f' : F) (edits new : List (Entry (Option V))) : Type 0 where
+    pub onward : IsOnward eq l left
+    pub asked : IsUnderway (pieces l h old) n (within l h left) f' edits new
+
+  pub walk_none : (low high : ℤ) (items left : List (Entry V)) (edits : List (Entry (Option V))) → IsRangeMap eq low high old → items ≡ ending_from l old → left ≡ items → IsWalked l left f edits edits
+  walk_none low high items left edits r items_are left_is =
+      let is = left_is ∙ items_are in
+      let whole = whole_first eq l h old (canonical eq laws old r.runs) in
+      record {
+        onward = subst (IsOnward eq l) (sym is) whole.onward;
+        asked = underway_none (pieces l h old) (within l h left) edits (ap (filled_entries l h) (ap (within l h) is ∙ whole.same));
+      }
+
+  module _ (low high n : ℤ) (left : List (Entry V)) (f' : F) (edits new : List (Entry (Option V))) (r : IsRangeMap eq low high old) (w : l ≤ℤ h) (walk : IsWalked n left f' edits new) where
+    pub walk_ends : left ≡ [] → AreEntriesAsked shows g eq l h old n f f' edits new
+    walk_ends none = entries_asked (pieces l h old) n (within l h left) f' edits new (are_pieces eq laws low high l h old r w) walk.asked (ap (within l h) none)
+
+    -- the next entry
+    module _ (e : Entry V) (rest : List (Entry V)) (is : left ≡ e ∷ rest) where
+      pub walk_passes : h <ℤ e.lo → AreEntriesAsked shows g eq l h old n f f' edits new
+      walk_passes over =
+          let none = ap (within l h) is ∙ within_over eq l h e rest (subst (IsOnward eq l) is walk.onward) w over in
+          entries_asked (pieces l h old) n (within l h left) f' edits new (are_pieces eq laws low high l h old r w) walk.asked none
+
+      -- its keys from l up to h
+      module _ (a b : ℤ) (under : e.lo ≤ℤ h) (starts : a ≡ int_max l e.lo) (ends : b ≡ int_min h e.hi) where
+        next_is : within l h left ≡ entry a b e.value ∷ within l h rest
+        next_is = next_piece eq l h a b left rest e is walk.onward w under starts ends
+
+        pub walk_takes_gap : IsCallableAtPieces shows g eq l h f old → n <ℤ a → TakesValue shows g f' None
+        walk_takes_gap may = takes_gap (pieces l h old) n (within l h left) (within l h rest) (entry a b e.value) f' edits new walk.asked next_is may (are_pieces eq laws low high l h old r w)
+
+        module _ (f'' : F) (mid : List (Entry (Option V))) (gap : ArePiecesAsked shows g eq (none_before n a) f' f'' new mid) where
+          pub walk_takes_entry : IsCallableAtPieces shows g eq l h f old → TakesValue shows g f'' (Some e.value)
+          walk_takes_entry may = takes_entry (pieces l h old) n (within l h left) (within l h rest) (entry a b e.value) f' edits new walk.asked next_is f'' mid gap may (are_pieces eq laws low high l h old r w)
+
+          pub walk_more : (m : ℤ) (f''' : F) (next : List (Entry (Option V))) → m ≡ b +ℤ pos 1 → IsPieceAsked shows g eq (entry a b (Some e.value)) f'' f''' mid next → IsWalked m rest f''' edits next
+          walk_more m f''' next is_next here = record {
+            onward = onward_next eq l h e rest (subst (IsOnward eq l) is walk.onward);
+            asked =
+                subst (λ k. IsUnderway (pieces l h old) k (within l h rest) f''' edits next) (sym is_next)
+                (underway_more (pieces l h old) n (within l h left) (within l h rest) (entry a b e.value) f' edits new walk.asked next_is f'' mid gap f''' next here);
+          }
 
   -- the last gap too
   pub all_asked : (n : ℤ) (f' f'' : F) (edits mid new : List (Entry (Option V))) (a : AreEntriesAsked shows g eq l h old n f f' edits mid) → ArePiecesAsked shows g eq (none_before n (h +ℤ pos 1)) f' f'' mid new → ArePiecesAsked shows g eq (a.pieces ++ none_before n (h +ℤ pos 1)) f f'' edits new

@@ -12,7 +12,7 @@ module _ {V : Type 0} (eq : V → V → Bool) (laws : IsEquivalence eq) (low hig
   pair_nowhere p es w r = record { painted = painted_nowhere eq laws low high p es w r; nowhere = λ u. refl; inside = λ u. refl }
 
   -- of a pair an equal one is painted
-  pair_alike : (p q : Entry V) (old new : List (Entry V)) → IsPairPainted eq low high q old new → q.lo ≡ p.lo → q.hi ≡ p.hi → eq q.value p.value ≡ true → IsPairPainted eq low high p old new
+  pub pair_alike : (p q : Entry V) (old new : List (Entry V)) → IsPairPainted eq low high q old new → q.lo ≡ p.lo → q.hi ≡ p.hi → eq q.value p.value ≡ true → IsPairPainted eq low high p old new
   pair_alike p q old new i lo hi v = record {
     painted = record {
       range_map = i.painted.range_map;
@@ -35,7 +35,7 @@ module _ {V : Type 0} (eq : V → V → Bool) (laws : IsEquivalence eq) (low hig
           subst (λ b. SameOption eq (cond b (Some q.value) (at old k)) (cond (holds p k) (Some p.value) (at old k))) (sym same) (either (holds p k) k)
 
   -- one pair more
-  in_turn_more : (ps : List (Entry V)) (p : Entry V) (old cur new : List (Entry V)) → ArePaintedInTurn eq low high ps old cur → IsPairPainted eq low high p cur new → ArePaintedInTurn eq low high (ps ++ p ∷ []) old new
+  pub in_turn_more : (ps : List (Entry V)) (p : Entry V) (old cur new : List (Entry V)) → ArePaintedInTurn eq low high ps old cur → IsPairPainted eq low high p cur new → ArePaintedInTurn eq low high (ps ++ p ∷ []) old new
   in_turn_more [] p old cur new q i = (new, subst (λ es. IsPairPainted eq low high p es new) q i, refl)
   in_turn_more (r ∷ ps) p old cur new j i = (j.0, j.1, in_turn_more ps p j.0 cur new j.2 i)
 

@@ -11,7 +11,7 @@ use crate::operators::set_of::set_of;
 use crate::pairs::push_clone;
 use blaze_int::Integer;
 use blaze_streams::{SortedDisjoint, complement};
-use blaze_table::{RangeSetBlaze, RangeTable};
+use blaze_table::RangeSetBlaze;
 use std::alloc::{AllocError, Global};
 use std::ops::Not;
 
@@ -60,8 +60,7 @@ impl<T: Integer, V: Eq + Clone> RangeMapBlaze<T, V> {
             let (start, end) = range.into_inner();
             push_clone(&mut entries, start, end, value)?;
         }
-        let table = RangeTable::from_canonical(alloc, entries)?;
-        Ok(RangeMapBlaze { table })
+        Self::from_canonical(alloc, entries)
     }
 }
 

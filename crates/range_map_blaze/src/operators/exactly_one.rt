@@ -78,8 +78,7 @@ pub fn symmetric_difference_with<T: Integer, V: Eq + Clone>(
     symmetric_difference(&left, right)
 }
 
-/// The keys that exactly one of a borrowed and an owned map has. If the borrowed one has few entries, edits the owned one in
-/// place.
+/// The keys that exactly one of a borrowed and an owned map has, as those of the owned and the borrowed one.
 pub fn symmetric_difference_under<T: Integer, V: Eq + Clone>(
     left: &RangeMapBlaze<T, V>,
     right: RangeMapBlaze<T, V>,
@@ -88,10 +87,7 @@ pub fn symmetric_difference_under<T: Integer, V: Eq + Clone>(
     ensures { IfOk result (λ map. IsChosen V.eq T.low T.high option_xor left.now.entries
         right.entries map.entries) }
 {
-    if is_narrow(&left.table, &right.table) {
-        return alone_under(left, right);
-    }
-    symmetric_difference(left, &right)
+    symmetric_difference_with(right, left)
 }
 
 /// The union of what each of two borrowed maps has outside of the other's keys.
@@ -135,19 +131,5 @@ fn alone_with<T: Integer, V: Eq + Clone>(
 {
     let right_alone = outside_keys(right, &left.table)?;
     let left_alone = outside_keys_owned(left, &right.table)?;
-    union_owned(left_alone, right_alone)
-}
-
-/// The union of what a borrowed and an owned map have outside of each other's keys.
-fn alone_under<T: Integer, V: Eq + Clone>(
-    left: &RangeMapBlaze<T, V>,
-    right: RangeMapBlaze<T, V>,
-) -> Result<RangeMapBlaze<T, V>, AllocError>
-    requires { ClonesAreAlike V.is_clone V.eq }
-    ensures { IfOk result (λ map. IsChosen V.eq T.low T.high option_xor left.now.entries
-        right.entries map.entries) }
-{
-    let left_alone = outside_keys(left, &right.table)?;
-    let right_alone = outside_keys_owned(right, &left.table)?;
     union_owned(left_alone, right_alone)
 }

@@ -8,7 +8,7 @@ use crate::operators::chosen::{borrowed_chosen, owned_chosen};
 use crate::operators::few::{are_few, cover_few, is_narrow};
 use blaze_int::Integer;
 use blaze_streams::{OwnedRangeValuesIter, RightFirst, SortedDisjointMap, ValueCarrier};
-use blaze_table::{RangeEntry, RangeTable};
+use blaze_table::RangeTable;
 use std::alloc::AllocError;
 
 /// How a union is made. The result is the same.
@@ -131,9 +131,7 @@ fn painted_over<
     ranges.in_hand();
     let least = map.ranges_len().saturating_sub(map.ranges_len() / 8);
     while let Some((range, carrier)) = ranges.next() {
-        let (start, end) = range.into_inner();
-        let value = carrier.into_value()?;
-        map.paint_pair(RangeEntry { start, end, value })?;
+        map.paint_range(range, carrier)?;
         if map.ranges_len() < least {
             ranges.in_hand();
             return merged_over(map, ranges);

@@ -1,4 +1,4 @@
-use Rattle.range_map_blaze.proofs.Words.{◌∙◌, ◌++◌, ◌∷◌, [], refl, sym, ap, subst, append_assoc, append-nil, map-append, range_inclusive_start, IsRangeMap, uncounted, Entry, entry, shown_entry, shown_list}
+use Rattle.range_map_blaze.proofs.Words.{◌∙◌, ◌++◌, ◌∷◌, [], refl, sym, ap, subst, append_assoc, append-nil, map-append, range_inclusive_start, IsRangeMap, uncounted, IfOk-weaker, Entry, entry, shown_entry, shown_list}
 use Rattle.range_map_blaze.proofs.joins.map_of.Goals as goal
 
 pub loop-item-init : goal.loop-item-init
@@ -32,4 +32,4 @@ from_canonical-requires g c = record {
 pub returns : goal.returns
 returns g c =
     let all = sym (append-nil _) ∙ ap (λ es. shown_list g.T.Integer.rank c.loop-item.entries.items ++ es) (sym c.in-None.ensures.steps.0.0) ∙ c.loop-item.invariant in
-    c.in_ok-table.ensures ∙ ap uncounted all
+    IfOk-weaker c.from_canonical.result _ _ (λ map made. made ∙ ap uncounted all) c.from_canonical.ensures

@@ -1,4 +1,6 @@
-use Rattle.range_map_blaze.proofs.Words.{refl, sym, ap, subst, IsFinite, EachValue, shown_range, asked, answered_none, takes_next, answered_more, answered_all, each_next}
+use Rattle.range_map_blaze.proofs.Words.{IfOk-weaker, sym, ap, subst, IsFinite, EachValue, shown_range, asked, answered_none, takes_next, answered_more, answered_all, each_next}
+use Rattle.blaze_streams.specs.Answers.{IsTransformed}
+use Rattle.range_map_blaze.proofs.Made.{made_of}
 use Rattle.range_map_blaze.proofs.joins.map_of_answers.Goals as goal
 
 pub loop-item-init : goal.loop-item-init
@@ -41,4 +43,4 @@ pub returns : goal.returns
 returns g c =
     let answered = answered_all g.C.Asks.shows g.C.Asks.calls g.VC.Value.PartialEq.eq g.W.PartialEq.eq g.T.Integer.low g.T.Integer.high c.args.f _ g.met.W.Eq.laws _ _ _ c.loop-item.invariant
     (g.met.S.SortedDisjointMap.gives _ _ _ c.in-None.ensures.steps).0 in
-    (rw c.in_ok-table.ensures answered, rw c.in_ok-table.ensures refl)
+    IfOk-weaker c.from_canonical.result _ _ (λ map made. made_of (IsTransformed g.C.Asks.shows g.C.Asks.calls g.W.PartialEq.eq g.T.Integer.low g.T.Integer.high c.args.f (g.S.SortedDisjointMap.left c.args.stream)) map _ made answered) c.from_canonical.ensures

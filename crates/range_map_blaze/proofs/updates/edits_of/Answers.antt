@@ -5,8 +5,10 @@ use Rattle.range_map_blaze.proofs.updates.edits_of.Goals as goal
 pub ask_up_to-requires : goal.ask_up_to-requires
 ask_up_to-requires g c =
     let rank = g.T.Integer.rank in
-    takes_last (λ a. shown_option (λ v. v.now) a.0) g.F.FnMut g.V.PartialEq.eq g.met.V.Eq.laws (rank c.args.start) (rank c.args.end) c.args.f c.args.table.now.entries c.requires.callable
-    (rank_or_end rank g.T.Integer.high c.in_ok-next.next) _ _ _ c.in_ok-next.ensures
+    record {
+      callable = takes_last (λ a. shown_option (λ v. v.now) a.0) g.F.FnMut g.V.PartialEq.eq g.met.V.Eq.laws (rank c.args.start) (rank c.args.end) c.args.f c.args.table.now.entries c.requires.callable
+          (rank_or_end rank g.T.Integer.high c.in_ok-next.next) _ _ _ c.in_ok-next.ensures;
+    }
 
 pub returns : goal.returns
 returns g c =

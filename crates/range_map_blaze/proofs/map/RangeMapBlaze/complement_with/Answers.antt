@@ -1,4 +1,4 @@
-use Rattle.range_map_blaze.proofs.Words.{[], ◌++◌, ◌∷◌, ◌∙◌, sym, ap, subst, append-nil, append_assoc, map, map-append, IsComplement, entry, SameEntries, shown_entry, shown_bare_range, unit_eq}
+use Rattle.range_map_blaze.proofs.Words.{IfOk-weaker, [], ◌++◌, ◌∷◌, ◌∙◌, sym, ap, subst, append-nil, append_assoc, map, map-append, IsComplement, entry, SameEntries, shown_entry, shown_bare_range, unit_eq}
 use Rattle.range_map_blaze.proofs.Choices.{complement_of}
 use Rattle.range_map_blaze.proofs.Made.{made_of}
 use Rattle.range_map_blaze.proofs.Streams.{same-push, range_map_as}
@@ -45,4 +45,4 @@ pub returns : goal.returns
 returns g c =
     let i = c.loop-range.invariant in
     let all = i.3 ∙ ap (λ es. i.1 ++ es) c.in-None.ensures.steps.0.0 ∙ append-nil i.1 in
-    made_of (IsComplement g.V.PartialEq.eq g.T.Integer.low g.T.Integer.high c.args.value.now c.args.self.now.entries) _ _ c.in_ok-table.ensures (complement_as g.V.PartialEq.eq g.met.V.Eq.laws c.args.value.now g.T.Integer.low g.T.Integer.high c.args.self.now.entries i.1 _ (rw all at i.2) i.4)
+    IfOk-weaker c.from_canonical.result _ _ (λ map made. made_of (IsComplement g.V.PartialEq.eq g.T.Integer.low g.T.Integer.high c.args.value.now c.args.self.now.entries) map _ made (complement_as g.V.PartialEq.eq g.met.V.Eq.laws c.args.value.now g.T.Integer.low g.T.Integer.high c.args.self.now.entries i.1 _ (rw all at i.2) i.4)) c.from_canonical.ensures

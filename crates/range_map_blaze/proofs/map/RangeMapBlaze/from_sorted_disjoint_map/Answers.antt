@@ -1,4 +1,4 @@
-use Rattle.range_map_blaze.proofs.Words.{[], ◌++◌, ◌∷◌, ◌∙◌, sym, ap, subst, map, append-nil, IsFinite, SameEntries, shown_entry, shown_range}
+use Rattle.range_map_blaze.proofs.Words.{IfOk-weaker, [], ◌++◌, ◌∷◌, ◌∙◌, sym, ap, subst, map, append-nil, IsFinite, SameEntries, shown_entry, shown_range}
 use Rattle.range_map_blaze.proofs.Made.{made_of}
 use Rattle.range_map_blaze.proofs.Streams.{range_map_as, taken_more}
 use Rattle.range_map_blaze.proofs.map.RangeMapBlaze.from_sorted_disjoint_map.Goals as goal
@@ -38,4 +38,4 @@ returns g c =
     let i = c.loop-range.invariant in
     let none = (g.met.I.SortedDisjointMap.gives _ _ _ c.in-None.ensures.steps).0 in
     let all = i.1 ∙ ap (λ es. i.0 ++ es) none ∙ append-nil i.0 in
-    made_of (SameEntries g.V.PartialEq.eq (g.I.SortedDisjointMap.left c.args.stream)) _ _ c.in_ok-table.ensures (subst (λ es. SameEntries g.V.PartialEq.eq es (map (shown_entry g.T.Integer.rank (λ v. v)) c.loop-range.entries.items)) (sym all) i.2)
+    IfOk-weaker c.from_canonical.result _ _ (λ new made. made_of (SameEntries g.V.PartialEq.eq (g.I.SortedDisjointMap.left c.args.stream)) new _ made (subst (λ es. SameEntries g.V.PartialEq.eq es (map (shown_entry g.T.Integer.rank (λ v. v)) c.loop-range.entries.items)) (sym all) i.2)) c.from_canonical.ensures

@@ -1,5 +1,5 @@
-use Rattle.range_map_blaze.proofs.Words.{[], ◌++◌, ◌∷◌, ◌∙◌, refl, sym, ap, append-nil, append_assoc, subst, IsFinite, shown_range, entry, counted_none, counted_then, ArePaintedInTurn}
-use Rattle.range_map_blaze.proofs.Paints.InTurn.{in_turn_by}
+use Rattle.range_map_blaze.proofs.Words.{[], ◌++◌, ◌∷◌, ◌∙◌, refl, sym, ap, append-nil, append_assoc, subst, IsFinite, shown_range, counted_none, counted_then, ArePaintedInTurn}
+use Rattle.range_map_blaze.proofs.Paints.InTurn.{in_turn_more}
 use Rattle.range_map_blaze.proofs.map.RangeMapBlaze.paint_ranges.Goals as goal
 
 pub loop-range-smaller : goal.loop-range-smaller
@@ -20,13 +20,11 @@ pub loop-range-preserved : goal.loop-range-preserved
 loop-range-preserved g c =
     let i = c.loop-range.invariant in
     let e = shown_range g.T.Integer.rank g.VC.ValueCarrier.shown (c.in-Some.range, c.in-Some.carrier) in
-    let painted = entry (g.T.Integer.rank c.into_inner-start.result.0) (g.T.Integer.rank c.into_inner-start.result.1) c.in_ok-into_value.field-0 in
     let took = g.met.S.SortedDisjointMap.gives _ _ _ c.in-Some.ensures.steps in (
       i.0 ++ e ∷ [],
       i.1 ∙ ap (λ es. i.0 ++ es) took ∙ sym (append_assoc i.0 (e ∷ []) _),
-      in_turn_by g.V.PartialEq.eq g.met.V.Eq.laws g.T.Integer.low g.T.Integer.high e painted i.0 c.args.self.now.entries c.loop-range.self.entries c.paint_pair.new.self.entries i.2 c.in_ok-paint_pair.ensures.ok
-          (ap g.T.Integer.rank c.into_inner-start.ensures.start) (ap g.T.Integer.rank c.into_inner-start.ensures.end) (g.met.V.Eq.laws.symm _ _ ∙ c.in_ok-into_value.ensures),
-      counted_then _ _ _ i.3 c.paint_pair.ensures.counted,
+      in_turn_more g.V.PartialEq.eq g.met.V.Eq.laws g.T.Integer.low g.T.Integer.high i.0 e c.args.self.now.entries c.loop-range.self.entries c.paint_range.new.self.entries i.2 c.in_ok-paint_range.ensures.ok,
+      counted_then _ _ _ i.3 c.paint_range.ensures.counted,
     )
 
 pub returns-clause-ok : goal.returns-clause-ok

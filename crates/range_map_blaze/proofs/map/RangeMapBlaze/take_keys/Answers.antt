@@ -1,6 +1,16 @@
-use Rattle.range_map_blaze.proofs.Words.{sym, subst, CountedEntries, AreKeysTaken}
+use Rattle.range_map_blaze.proofs.Words.{◌≡◌, arith, ◌∙◌, refl, sym, ap, subst, Ok, if_err, counted_none, CountedEntries, IsChosen, IsRangeCut, left_with_right, uncounted, one_range, AreKeysTaken}
+use Rattle.std.proofs.lemmas.Bool.{false≢true}
+use Rattle.blaze_table.specs.Work.{IsCountedCut, IsRefused}
 use Rattle.range_map_blaze.proofs.TakenBack.{nothing_taken}
 use Rattle.range_map_blaze.proofs.map.RangeMapBlaze.take_keys.Goals as goal
+
+-- no edit, as a cut
+cut_nothing : {V : Type 0} (s : CountedEntries V) → IsCountedCut s s
+cut_nothing s = record { counted = counted_none s; puts = omega arith; looks = omega arith }
+
+-- no edit, as a failed one
+refused_itself : {V : Type 0} (s : CountedEntries V) → IsRefused s s
+refused_itself s = record { same = refl; counted = counted_none s }
 
 pub returns-then-is_free-clause-ok : goal.returns-then-is_free-clause-ok
 returns-then-is_free-clause-ok g c =
@@ -10,3 +20,46 @@ returns-then-is_free-clause-ok g c =
     let es = c.args.self.now.entries in
     subst (λ (s : CountedEntries g.row.V.Denot). AreKeysTaken eq g.T.Integer.low g.T.Integer.high l h es es s.entries) (sym c.new.ensures)
     (nothing_taken eq g.met.V.Eq.laws g.T.Integer.low g.T.Integer.high l h es c.in_hand.ensures (c.is_free.ensures.0 c.if-is_free.true))
+
+pub returns-then-is_free-clause-uncounted : goal.returns-then-is_free-clause-uncounted
+returns-then-is_free-clause-uncounted g c = subst (λ (s : CountedEntries g.row.V.Denot). s ≡ uncounted s.entries) (sym c.new.ensures) refl
+
+pub returns-then-is_free-clause-none : goal.returns-then-is_free-clause-none
+returns-then-is_free-clause-none g c = λ free. (ap Ok c.new.ensures, refl)
+
+pub returns-then-is_free-clause-counted : goal.returns-then-is_free-clause-counted
+returns-then-is_free-clause-counted g c = cut_nothing c.args.self.now
+
+pub returns-in_err-taken-clause-none : goal.returns-in_err-taken-clause-none
+returns-in_err-taken-clause-none g c = λ free. absurd (false≢true (sym c.if-is_free.false ∙ c.is_free.ensures.1 free))
+
+pub returns-in_err-taken-clause-err : goal.returns-in_err-taken-clause-err
+returns-in_err-taken-clause-err g c = if_err c.from_residual.result (refused_itself c.args.self.now)
+
+pub returns-in_err-cut_range-clause-none : goal.returns-in_err-cut_range-clause-none
+returns-in_err-cut_range-clause-none g c = λ free. absurd (false≢true (sym c.if-is_free.false ∙ c.is_free.ensures.1 free))
+
+pub returns-in_err-cut_range-clause-err : goal.returns-in_err-cut_range-clause-err
+returns-in_err-cut_range-clause-err g c =
+    if_err c.from_residual-in_err-cut_range.result (subst (λ (s : CountedEntries g.row.V.Denot). IsRefused s c.cut_range.new.self) c.self.view_is c.in_err-cut_range.ensures.err)
+
+pub returns-clause-ok : goal.returns-clause-ok
+returns-clause-ok g c =
+    let eq = g.V.PartialEq.eq in
+    let low = g.T.Integer.low in
+    let high = g.T.Integer.high in
+    let l = g.T.Integer.rank c.args.start in
+    let h = g.T.Integer.rank c.args.end in
+    record {
+      left_is = subst (λ (s : CountedEntries g.row.V.Denot). IsRangeCut eq low high l h s.entries c.cut_range.new.self.entries) c.self.view_is c.in_ok-cut_range.ensures.ok;
+      taken_is = subst (λ (s : CountedEntries g.row.V.Denot). IsChosen eq low high left_with_right c.args.self.now.entries (one_range l h) s.entries) (sym c.uncounted.ensures) c.in_ok-taken.ensures;
+    }
+
+pub returns-clause-uncounted : goal.returns-clause-uncounted
+returns-clause-uncounted g c = subst (λ (s : CountedEntries g.row.V.Denot). s ≡ uncounted s.entries) (sym c.uncounted.ensures) refl
+
+pub returns-clause-none : goal.returns-clause-none
+returns-clause-none g c = λ free. absurd (false≢true (sym c.if-is_free.false ∙ c.is_free.ensures.1 free))
+
+pub returns-clause-counted : goal.returns-clause-counted
+returns-clause-counted g c = subst (λ (s : CountedEntries g.row.V.Denot). IsCountedCut s c.cut_range.new.self) c.self.view_is c.in_ok-cut_range.ensures.counted

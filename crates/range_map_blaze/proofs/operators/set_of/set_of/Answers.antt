@@ -1,5 +1,4 @@
-use Rattle.range_map_blaze.proofs.Words.{◌∙◌, sym, subst, IfOk-weaker, IsFinite, shown_bare_range, IsRangeSet}
-use Rattle.range_map_blaze.proofs.Taken.{taken_more, taken_all}
+use Rattle.range_map_blaze.proofs.Words.{◌∙◌, sym, subst, IfOk-weaker, IsFinite, shown_bare_range, IsRangeSet, taken_more, taken_all}
 use Rattle.range_map_blaze.proofs.operators.set_of.set_of.Goals as goal
 
 pub loop-range-init-derived : goal.loop-range-init-derived

@@ -1,5 +1,5 @@
-use Rattle.range_map_blaze.proofs.Words.{[], ◌++◌, ◌∷◌, ◌∙◌, refl, sym, ap, append-nil, append_assoc, subst, IsFinite, IfOk-weaker, shown_range, entry, ArePaintedInTurn}
-use Rattle.range_map_blaze.proofs.Paints.InTurn.{in_turn_by}
+use Rattle.range_map_blaze.proofs.Words.{[], ◌++◌, ◌∷◌, ◌∙◌, refl, sym, ap, append-nil, append_assoc, subst, IsFinite, IfOk-weaker, shown_range, ArePaintedInTurn}
+use Rattle.range_map_blaze.proofs.Paints.InTurn.{in_turn_more}
 use Rattle.range_map_blaze.proofs.Paints.PaintedOver.{painted_over, painted_then}
 use Rattle.range_map_blaze.proofs.Paints.Paintings.{in_turn}
 use Rattle.range_map_blaze.proofs.Unions.{union_of}
@@ -12,15 +12,13 @@ pub loop-range-preserved : goal.loop-range-preserved
 loop-range-preserved g c =
     let i = c.loop-range.invariant.2 in
     let e = shown_range g.T.Integer.rank g.VC.ValueCarrier.shown (c.in-Some.range, c.in-Some.carrier) in
-    let painted = entry (g.T.Integer.rank c.into_inner-start.result.0) (g.T.Integer.rank c.into_inner-start.result.1) c.in_ok-value.value in
     let took = g.met.S.SortedDisjointMap.gives _ _ _ c.in-Some.ensures.steps in (
       g.met.S.SortedDisjointMap.ready _,
       subst IsFinite (sym (g.met.S.SortedDisjointMap.counted _)) tt,
       (
         i.0 ++ e ∷ [],
         i.1 ∙ ap (λ es. i.0 ++ es) took ∙ sym (append_assoc i.0 (e ∷ []) _),
-        in_turn_by g.V.PartialEq.eq g.met.V.Eq.laws g.T.Integer.low g.T.Integer.high e painted i.0 c.args.left.entries c.loop-range.map.entries c.paint_pair.new.self.entries i.2 c.in_ok-paint_pair.ensures.ok
-            (ap g.T.Integer.rank c.into_inner-start.ensures.start) (ap g.T.Integer.rank c.into_inner-start.ensures.end) (g.met.V.Eq.laws.symm _ _ ∙ c.in_ok-value.ensures),
+        in_turn_more g.V.PartialEq.eq g.met.V.Eq.laws g.T.Integer.low g.T.Integer.high i.0 e c.args.left.entries c.loop-range.map.entries c.paint_range.new.self.entries i.2 c.in_ok-paint_range.ensures.ok,
       ),
     )
 
@@ -28,11 +26,9 @@ pub returns-then-ranges_len-least : goal.returns-then-ranges_len-least
 returns-then-ranges_len-least g c =
     let i = c.loop-range.invariant.2 in
     let e = shown_range g.T.Integer.rank g.VC.ValueCarrier.shown (c.in-Some.range, c.in-Some.carrier) in
-    let painted = entry (g.T.Integer.rank c.into_inner-start.result.0) (g.T.Integer.rank c.into_inner-start.result.1) c.in_ok-value.value in
     let took = g.met.S.SortedDisjointMap.gives _ _ _ c.in-Some.ensures.steps in
     let parts = i.1 ∙ ap (λ es. i.0 ++ es) took ∙ sym (append_assoc i.0 (e ∷ []) _) in
-    let done = in_turn_by g.V.PartialEq.eq g.met.V.Eq.laws g.T.Integer.low g.T.Integer.high e painted i.0 c.args.left.entries c.loop-range.map.entries c.paint_pair.new.self.entries i.2 c.in_ok-paint_pair.ensures.ok
-    (ap g.T.Integer.rank c.into_inner-start.ensures.start) (ap g.T.Integer.rank c.into_inner-start.ensures.end) (g.met.V.Eq.laws.symm _ _ ∙ c.in_ok-value.ensures) in
+    let done = in_turn_more g.V.PartialEq.eq g.met.V.Eq.laws g.T.Integer.low g.T.Integer.high i.0 e c.args.left.entries c.loop-range.map.entries c.paint_range.new.self.entries i.2 c.in_ok-paint_range.ensures.ok in
     let extended = in_turn g.V.PartialEq.eq g.met.V.Eq.laws _ _ _ _ _ c.in_hand.ensures done in
     IfOk-weaker c.merged_over.result _ _
     (λ map union. union_of g.V.PartialEq.eq g.met.V.Eq.laws _ _ _ _ _ c.in_hand.ensures c.in_hand-2.ensures
