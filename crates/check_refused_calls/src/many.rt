@@ -14,27 +14,40 @@ fn map_of(alloc: Global, table: &Words) -> Result<WordMap, AllocError> {
     RangeValuesIter::new(table).into_range_map_blaze(alloc)
 }
 
+/// Returns the map of some ranges and their words.
+fn map_with(alloc: Global, ranges: &[(i32, i32, &str)]) -> Result<WordMap, AllocError> {
+    let table = table_of(alloc, ranges)?;
+    map_of(alloc, &table)
+}
+
+/// Returns the maps of some lists of ranges and words.
+fn maps_with(alloc: Global, lists: &[&[(i32, i32, &str)]]) -> Result<Vec<WordMap>, AllocError> {
+    let mut maps = Vec::new(alloc);
+    for ranges in lists {
+        maps.push(map_with(alloc, ranges)?)?;
+    }
+    Ok(maps)
+}
+
 /// Returns two maps that share keys.
 fn pair(alloc: Global) -> Result<[WordMap; 2], AllocError> {
-    let a = map_of(alloc, &table_of(alloc, &[(1, 5, "a")])?)?;
-    let b = map_of(alloc, &table_of(alloc, &[(4, 8, "b")])?)?;
+    let a = map_with(alloc, &[(1, 5, "a")])?;
+    let b = map_with(alloc, &[(4, 8, "b")])?;
     Ok([a, b])
 }
 
 /// Returns three maps that share a key.
 fn three(alloc: Global) -> Result<Vec<WordMap>, AllocError> {
-    let a = map_of(alloc, &table_of(alloc, &[(1, 5, "a")])?)?;
-    let b = map_of(alloc, &table_of(alloc, &[(4, 8, "b")])?)?;
-    let c = map_of(alloc, &table_of(alloc, &[(5, 6, "c")])?)?;
-    Ok(Vec::from_array(alloc, [a, b, c])?)
+    maps_with(alloc, &[&[(1, 5, "a")], &[(4, 8, "b")], &[(5, 6, "c")]])
 }
 
 /// Returns three maps, of which the second has 16 entries for the one entry of the others.
 fn with_large(alloc: Global) -> Result<Vec<WordMap>, AllocError> {
-    let none = WordMap::new(alloc);
-    let a = map_of(alloc, &leaf(alloc, 16)?)?;
-    let b = map_of(alloc, &table_of(alloc, &[(4, 8, "b")])?)?;
-    Ok(Vec::from_array(alloc, [none, a, b])?)
+    let mut maps = maps_with(alloc, &[&[]])?;
+    let large = leaf(alloc, 16)?;
+    maps.push(map_of(alloc, &large)?)?;
+    maps.push(map_with(alloc, &[(4, 8, "b")])?)?;
+    Ok(maps)
 }
 
 /// Makes the union of a `Vec`.

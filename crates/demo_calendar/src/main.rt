@@ -50,6 +50,22 @@ fn print_span(rt: &HostRuntime, days: RangeInclusive<Day>, name: &str) -> Result
     Ok(())
 }
 
+impl Calendar {
+    /// Books the free days of a line `FROM TO NAME`, and prints its conflicts with earlier lines.
+    fn book(&mut self, rt: &HostRuntime, text: &str) -> Result<(), Fault> {
+        let Some((first, last, name)) = booking(text) else {
+            return Err(Fault::Line);
+        };
+        for (days, other) in self.days.overlapping(first..=last) {
+            print!(rt; "{name} meets ")?;
+            print_span(rt, days, other.as_str())?;
+        }
+        let name = String::from_str(rt.alloc(), name)?;
+        let _ = self.days.ranges_insert_absent(first..=last, name)?;
+        Ok(())
+    }
+}
+
 impl Table for Calendar {
     fn add(&mut self, rt: &HostRuntime, line: &str) -> Result<(), Fault> {
         let Some(text) = content(line) else {
@@ -61,16 +77,7 @@ impl Table for Calendar {
             self.years.push((first, last))?;
             return Ok(());
         }
-        let Some((first, last, name)) = booking(text) else {
-            return Err(Fault::Line);
-        };
-        for (days, other) in self.days.overlapping(first..=last) {
-            print!(rt; "{name} meets ")?;
-            print_span(rt, days, other.as_str())?;
-        }
-        let name = String::from_str(rt.alloc(), name)?;
-        let _ = self.days.ranges_insert_absent(first..=last, name)?;
-        Ok(())
+        self.book(rt, text)
     }
 
     fn print(&mut self, rt: &HostRuntime) -> Result<(), Fault> {

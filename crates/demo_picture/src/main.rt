@@ -46,15 +46,26 @@ pub fn place(shown: &Shown, keys: &RangeInclusive<i64>, width: usize) -> (usize,
     (left, right.saturating_sub(left).max(1))
 }
 
-/// Prints a line for each entry and each gap: the bar at its position, the range and the word.
+/// Prints the line of an entry or a gap: the bar at its position, the range and the word.
+fn print_bar(
+    rt: &HostRuntime,
+    shown: &Shown,
+    keys: RangeInclusive<i64>,
+    word: Option<&String>,
+) -> Result<(), Fault> {
+    let (left, width) = place(shown, &keys, WIDTH);
+    let right = WIDTH.saturating_sub(left.saturating_add(width));
+    match word {
+        Some(word) => println!(rt; "{:left$}{:#<width$}{:right$} {keys:?} {word}", "", "", "")?,
+        None => println!(rt; "{:left$}{:.<width$}{:right$} {keys:?} -", "", "", "")?,
+    }
+    Ok(())
+}
+
+/// Prints a line for each entry and each gap.
 fn print_text(rt: &HostRuntime, shown: &Shown) -> Result<(), Fault> {
     for (keys, word) in shown.range_values() {
-        let (left, width) = place(shown, &keys, WIDTH);
-        let right = WIDTH.saturating_sub(left.saturating_add(width));
-        match word {
-            Some(word) => println!(rt; "{:left$}{:#<width$}{:right$} {keys:?} {word}", "", "", "")?,
-            None => println!(rt; "{:left$}{:.<width$}{:right$} {keys:?} -", "", "", "")?,
-        }
+        print_bar(rt, shown, keys, word.as_ref())?;
     }
     Ok(())
 }

@@ -3,6 +3,7 @@ use crate::{Shown, place};
 use demo_lines::Fault;
 use std::alloc::{AllocError, Global};
 use std::collections::BTreeMap;
+use std::ops::RangeInclusive;
 
 /// The total width of the bars, in pixels.
 const WIDTH: usize = 600;
@@ -45,6 +46,23 @@ fn fill_of(legend: &Legend<'_>, word: Option<&String>) -> &'static str {
     }
 }
 
+/// Prints the range of an entry inside its bar, if the bar is wide enough.
+fn print_label(
+    rt: &HostRuntime,
+    keys: RangeInclusive<i64>,
+    x: usize,
+    width: usize,
+) -> Result<(), Fault> {
+    let label = format!(in rt.alloc(); "{keys:?}")?;
+    if label.len().saturating_mul(CHARACTER) <= width {
+        let middle = x.saturating_add(width / 2);
+        println!(rt;
+            "<text x=\"{middle}\" y=\"45\" text-anchor=\"middle\" fill=\"#fff\">{label}</text>"
+        )?;
+    }
+    Ok(())
+}
+
 /// Prints the bars, and the ranges of entries inside the bars that are wide enough.
 fn print_bars(rt: &HostRuntime, shown: &Shown, legend: &Legend<'_>) -> Result<(), Fault> {
     for (keys, word) in shown.range_values() {
@@ -53,14 +71,19 @@ fn print_bars(rt: &HostRuntime, shown: &Shown, legend: &Legend<'_>) -> Result<()
         println!(rt;
             "<rect x=\"{x}\" y=\"20\" width=\"{width}\" height=\"40\" fill=\"{fill}\" stroke=\"#888\"/>"
         )?;
-        let label = format!(in rt.alloc(); "{keys:?}")?;
-        if word.is_some() && label.len().saturating_mul(CHARACTER) <= width {
-            let middle = x.saturating_add(width / 2);
-            println!(rt;
-                "<text x=\"{middle}\" y=\"45\" text-anchor=\"middle\" fill=\"#fff\">{label}</text>"
-            )?;
+        if word.is_some() {
+            print_label(rt, keys, x, width)?;
         }
     }
+    Ok(())
+}
+
+/// Prints the line of a word in the legend.
+fn print_word(rt: &HostRuntime, place: usize, word: &str) -> Result<(), Fault> {
+    let y = place.saturating_mul(22).saturating_add(80);
+    let (base, fill) = (y.saturating_add(12), COLOURS[place % COLOURS.len()]);
+    println!(rt; "<rect x=\"20\" y=\"{y}\" width=\"14\" height=\"14\" fill=\"{fill}\"/>")?;
+    println!(rt; "<text x=\"42\" y=\"{base}\" fill=\"#888\">{word}</text>")?;
     Ok(())
 }
 
@@ -73,10 +96,7 @@ pub fn print(rt: &HostRuntime, shown: &Shown) -> Result<(), Fault> {
     )?;
     print_bars(rt, shown, &legend)?;
     for (place, word) in legend.words.iter().enumerate() {
-        let y = place.saturating_mul(22).saturating_add(80);
-        let (base, fill) = (y.saturating_add(12), COLOURS[place % COLOURS.len()]);
-        println!(rt; "<rect x=\"20\" y=\"{y}\" width=\"14\" height=\"14\" fill=\"{fill}\"/>")?;
-        println!(rt; "<text x=\"42\" y=\"{base}\" fill=\"#888\">{word}</text>")?;
+        print_word(rt, place, word)?;
     }
     println!(rt; "</svg>")?;
     Ok(())

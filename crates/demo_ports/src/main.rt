@@ -10,6 +10,9 @@ use std::process::ExitCode;
 
 type Names = RangeMapBlaze<u16, String>;
 
+/// Which protocols have a name for each port, in words.
+type Uses = RangeMapBlaze<u16, &'static str>;
+
 /// The least port that a user's service may use.
 const FIRST: u16 = 1024;
 
@@ -39,20 +42,52 @@ fn read(text: &str) -> Option<(&str, u16, &str)> {
     Some((name, u16::try_from(decimal(port)?).ok()?, protocol))
 }
 
-/// Prints the number of ports of each use, and the ports for which the names of the two protocols differ.
-fn print_uses(rt: &HostRuntime, tcp: &Names, udp: &Names) -> Result<(), Fault> {
-    let uses = tcp.full_join(udp, use_of)?;
-    for wanted in ["TCP alone", "UDP alone", "same name", "other name"] {
-        let mut chosen = uses.clone()?;
-        chosen.ranges_retain(|_, found| *found == wanted);
-        println!(rt; "{wanted}: {} ports", chosen.len())?;
-    }
+/// Prints the number of ports of a use.
+fn print_count(rt: &HostRuntime, uses: &Uses, wanted: &'static str) -> Result<(), Fault> {
+    let mut chosen = uses.clone()?;
+    chosen.ranges_retain(|_, found| *found == wanted);
+    println!(rt; "{wanted}: {} ports", chosen.len())?;
+    Ok(())
+}
+
+/// Prints the ports for which the names of the two protocols differ.
+fn print_other_names(rt: &HostRuntime, tcp: &Names, udp: &Names) -> Result<(), Fault> {
     for (port, name) in tcp {
         if let Some(other) = udp.get(port)
             && name != other
         {
             println!(rt; "{port} TCP {name}, UDP {other}")?;
         }
+    }
+    Ok(())
+}
+
+/// Prints the number of ports of each use, and the ports for which the names of the two protocols differ.
+fn print_uses(rt: &HostRuntime, tcp: &Names, udp: &Names) -> Result<(), Fault> {
+    let uses = tcp.full_join(udp, use_of)?;
+    for wanted in ["TCP alone", "UDP alone", "same name", "other name"] {
+        print_count(rt, &uses, wanted)?;
+    }
+    print_other_names(rt, tcp, udp)
+}
+
+/// Prints the number of free ports.
+fn print_free(rt: &HostRuntime, used: &Names) -> Result<(), Fault> {
+    let free = (!used)?;
+    let (ports, ranges) = (free.len(), free.ranges_len());
+    println!(rt; "{ports} ports are free, in {ranges} ranges")?;
+    Ok(())
+}
+
+/// Prints the first of some gaps with at least `count` ports.
+fn print_first_gap(
+    rt: &HostRuntime,
+    gaps: &[RangeInclusive<u16>],
+    count: u64,
+) -> Result<(), Fault> {
+    match gaps.iter().find(|gap| count <= u64::from(length(gap))) {
+        Some(gap) => println!(rt; "{count} free ports: {gap:?}")?,
+        None => println!(rt; "{count} free ports: none")?,
     }
     Ok(())
 }
@@ -91,15 +126,10 @@ impl Table for Ports {
     fn print(&mut self, rt: &HostRuntime) -> Result<(), Fault> {
         print_uses(rt, &self.tcp, &self.udp)?;
         let used = (&self.tcp | &self.udp)?;
-        let free = (!&used)?;
-        let (ports, ranges) = (free.len(), free.ranges_len());
-        println!(rt; "{ports} ports are free, in {ranges} ranges")?;
+        print_free(rt, &used)?;
         let gaps = longer_gaps(rt, &used)?;
         for count in self.counts.iter() {
-            match gaps.iter().find(|gap| *count <= u64::from(length(gap))) {
-                Some(gap) => println!(rt; "{count} free ports: {gap:?}")?,
-                None => println!(rt; "{count} free ports: none")?,
-            }
+            print_first_gap(rt, gaps.as_slice(), *count)?;
         }
         Ok(())
     }

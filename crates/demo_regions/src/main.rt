@@ -62,21 +62,33 @@ fn print_regions(rt: &HostRuntime, map: &Map) -> Result<(), Fault> {
     Ok(())
 }
 
-/// Prints the removed regions, the moved ones (both removed and new), and the new ones.
-fn print_moves(rt: &HostRuntime, gone: &Map, new: &Map) -> Result<(), Fault> {
-    let (old_places, new_places) = (places_of(rt.alloc(), gone)?, places_of(rt.alloc(), new)?);
+/// Prints the removed regions, and the moved ones, which are both removed and new.
+fn print_gone(rt: &HostRuntime, gone: &Map, new: &Map) -> Result<(), Fault> {
+    let places = places_of(rt.alloc(), new)?;
     for (bytes, name) in gone.range_values() {
-        match new_places.get(&(length(&bytes), name.as_str())) {
+        match places.get(&(length(&bytes), name.as_str())) {
             Some(to) => println!(rt; "moved {:x} to {:x} {name}", bytes.start(), to.start())?,
             None => println!(rt; "gone {:x}..={:x} {name}", bytes.start(), bytes.end())?,
         }
     }
+    Ok(())
+}
+
+/// Prints the new regions that are not moved ones.
+fn print_new(rt: &HostRuntime, gone: &Map, new: &Map) -> Result<(), Fault> {
+    let places = places_of(rt.alloc(), gone)?;
     for (bytes, name) in new.range_values() {
-        if !old_places.contains_key(&(length(&bytes), name.as_str())) {
+        if !places.contains_key(&(length(&bytes), name.as_str())) {
             println!(rt; "new {:x}..={:x} {name}", bytes.start(), bytes.end())?;
         }
     }
     Ok(())
+}
+
+/// Prints the removed regions, the moved ones and the new ones.
+fn print_moves(rt: &HostRuntime, gone: &Map, new: &Map) -> Result<(), Fault> {
+    print_gone(rt, gone, new)?;
+    print_new(rt, gone, new)
 }
 
 /// Prints the ranges of bytes that both tables have with different values, with the old and the new value.
@@ -96,13 +108,18 @@ fn print_other_values(rt: &HostRuntime, first: &Map, later: &Map) -> Result<(), 
     Ok(())
 }
 
+/// Prints the numbers of bytes in both tables and in at least one.
+fn print_shared(rt: &HostRuntime, first: &Map, later: &Map) -> Result<(), Fault> {
+    let (both, either) = ((first & later)?.len(), (first | later)?.len());
+    println!(rt; "{both} bytes in both, {either} in either")?;
+    Ok(())
+}
+
 /// Prints the changes, and the numbers of bytes in both tables and in at least one.
 fn print_changes(rt: &HostRuntime, first: &Map, later: &Map) -> Result<(), Fault> {
     print_moves(rt, &(first - later)?, &(later - first)?)?;
     print_other_values(rt, first, later)?;
-    let (both, either) = ((first & later)?.len(), (first | later)?.len());
-    println!(rt; "{both} bytes in both, {either} in either")?;
-    Ok(())
+    print_shared(rt, first, later)
 }
 
 impl Table for Regions {

@@ -15,6 +15,7 @@ mod family;
 use demo_keys::{Ipv4, Ipv6};
 use demo_lines::{Fault, Table, content, run};
 use family::{Block, map_of, owner_of, print_prefixes, print_ranges, read, read_block};
+use range_map_blaze::RangeMapBlaze;
 use std::process::ExitCode;
 
 /// A query.
@@ -54,6 +55,24 @@ fn split_owner(text: &str) -> Option<(&str, &str)> {
     }
 }
 
+/// Prints the result of a query.
+fn print_answer(
+    rt: &HostRuntime,
+    of_4: &RangeMapBlaze<Ipv4, String>,
+    of_6: &RangeMapBlaze<Ipv6, String>,
+    question: Question,
+) -> Result<(), Fault> {
+    match question {
+        Question::OwnerOf4(address) => println!(rt; "{address} {}", owner_of(of_4, address))?,
+        Question::OwnerOf6(address) => println!(rt; "{address} {}", owner_of(of_6, address))?,
+        Question::Prefixes => {
+            print_prefixes(rt, of_4)?;
+            print_prefixes(rt, of_6)?;
+        }
+    }
+    Ok(())
+}
+
 impl Table for Routes {
     fn add(&mut self, rt: &HostRuntime, line: &str) -> Result<(), Fault> {
         let Some(text) = content(line) else {
@@ -81,18 +100,7 @@ impl Table for Routes {
         print_ranges(rt, &of_4)?;
         print_ranges(rt, &of_6)?;
         for question in self.questions.iter() {
-            match *question {
-                Question::OwnerOf4(address) => {
-                    println!(rt; "{address} {}", owner_of(&of_4, address))?;
-                }
-                Question::OwnerOf6(address) => {
-                    println!(rt; "{address} {}", owner_of(&of_6, address))?;
-                }
-                Question::Prefixes => {
-                    print_prefixes(rt, &of_4)?;
-                    print_prefixes(rt, &of_6)?;
-                }
-            }
+            print_answer(rt, &of_4, &of_6, *question)?;
         }
         Ok(())
     }

@@ -50,6 +50,21 @@ fn print_sizes(rt: &HostRuntime, map: &RangeMapBlaze<char, String>) -> Result<()
     Ok(())
 }
 
+/// Prints each character of a word with its script.
+fn print_word(
+    rt: &HostRuntime,
+    map: &RangeMapBlaze<char, String>,
+    word: &str,
+) -> Result<(), Fault> {
+    for character in word.chars() {
+        let script = map
+            .get(character)
+            .map_or("Unknown", |script| script.as_str());
+        println!(rt; "{character} {script}")?;
+    }
+    Ok(())
+}
+
 impl Table for Scripts {
     fn add(&mut self, rt: &HostRuntime, line: &str) -> Result<(), Fault> {
         if let Some(word) = line.strip_prefix("? ") {
@@ -68,11 +83,7 @@ impl Table for Scripts {
         println!(rt; "{characters} characters, {entries} entries, {gaps} gaps")?;
         print_sizes(rt, &self.map)?;
         for word in self.words.iter() {
-            for character in word.chars() {
-                let script = self.map.get(character);
-                let script = script.map_or("Unknown", |script| script.as_str());
-                println!(rt; "{character} {script}")?;
-            }
+            print_word(rt, &self.map, word.as_str())?;
         }
         Ok(())
     }
