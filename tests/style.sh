@@ -28,7 +28,8 @@ if [ "$#" = 0 ]; then
 fi
 mapfile -t files < <(find "${paths[@]}" \( -name out -o -name build -o -name target -o -name examples -o -name must-fail \) -prune -o -type f \
     \( -regex '.*\.\(md\|help\|package\|sh\|h\|hpp\|py\|pyx\|pxi\|pyi\)' -o -regex '\(test\|\.ci/run\|tools/[a-z]*\)' \
-    -o -path 'crates/*/src/*.rt' -o -path 'crates/*/specs/*.antt' -o -path 'bindings/rust/*.rs' -o -path 'tests/*/*.rs' -o -path 'tests/*.txt' \) -print | LC_ALL=C sort)
+    -o -path 'crates/*/src/*.rt' -o -path 'crates/*/specs/*.antt' -o -path 'bindings/rust/*.rs' -o -path 'tests/*/*.rs' -o -path 'tests/*.txt' \
+    -o -path 'bench/library/*.rs' \) -print | LC_ALL=C sort)
 tests/style.py "${files[@]}" | tee "$work/found" || true
 found="$(cut -d : -f 1 "$work/found" | sort -u | grep -c . || true)"
 failed=$((failed + found))

@@ -38,6 +38,25 @@ place() {
     echo "$1"
 }
 
+# The words for `rattle build` to prove the crate in the current folder over the libraries in the crates' out/rlib, and to make the static
+# library libCRATE.a. `kit` is the toolchain's folder.
+words_over_libraries() { # the crate, the folder for the library and for what is kept
+    local name
+    printf '%s\n' --crate-name "$1" src/lib.rt --extern "std=$kit/rlibs/std.rlib" -L "dependency=$kit/rlibs"
+    for name in ${stands_on[$1]}; do
+        if [ -n "${stands_on[$name]+is}" ]; then
+            printf '%s\n' --extern "$name=$root/crates/$name/out/rlib/$name.rlib"
+        else
+            printf '%s\n' --extern "$name=$kit/rlibs/$name.rlib"
+        fi
+    done
+    while IFS= read -r name; do
+        if [ "$name" != "$1" ]; then printf '%s\n' -L "dependency=$root/crates/$name/out/rlib"; fi
+    done < <(crates_of "$1")
+    printf '%s\n' --antt-project "$kit/rattle/logic/antt-project.json" --logic-built "$kit/logic_built" --links "$1="
+    printf '%s\n' --incremental "$2/incremental" --crate-type staticlib --toolchain "$kit/toolchain" --backend llvm --jobs 2 -o "$2/lib$1.a"
+}
+
 # What a program would be made of now. Without a toolchain, the noted one is taken.
 made_of() (
     mapfile -t crates < <(crates_of "$(crate_of "$1")")

@@ -7,6 +7,8 @@ mod makes;
 mod many;
 mod parts;
 mod prepared;
+#[cfg(test)]
+mod tests;
 mod walks;
 mod whole;
 
