@@ -42,27 +42,15 @@ prove_all() {
 
 # The crate over the libraries in the crates' out/rlib.
 prove_as_proved() {
-    local words=(--crate-name "$crate" src/lib.rt --extern "std=$kit/rlibs/std.rlib" -L "dependency=$kit/rlibs") name
+    local words
     if [ "$made" != "$(cat "$(note_of "$crate")" 2>/dev/null)" ]; then
         say "the sources are not those that \`rt ci\` proved here"
         exit 70
     fi
-    for name in ${stands_on[$crate]}; do
-        if [ "$name" = staticlib ]; then continue; fi
-        if [ -n "${stands_on[$name]+is}" ]; then
-            words+=(--extern "$name=$root/crates/$name/out/rlib/$name.rlib")
-        else
-            words+=(--extern "$name=$kit/rlibs/$name.rlib")
-        fi
-    done
-    while IFS= read -r name; do
-        if [ "$name" != "$crate" ]; then words+=(-L "dependency=$root/crates/$name/out/rlib"); fi
-    done < <(crates_of "$crate")
-    words+=(--antt-project "$kit/rattle/logic/antt-project.json" --logic-built "$kit/logic_built" --links "$crate=")
-    words+=(--incremental out/incremental --crate-type staticlib --toolchain "$kit/toolchain" --backend llvm --jobs 2)
+    mapfile -t words < <(words_over_libraries "$crate" out)
     mkdir -p "$root/crates/$crate/out"
     say "proving $crate over the libraries that are proved"
-    prove "$crate" "$kit/bin/rattle" build "${words[@]}" -o "out/lib$crate.a"
+    prove "$crate" "$kit/bin/rattle" build "${words[@]}"
 }
 
 # The archive has what it takes of the C library's part too, so that a program links one file.
