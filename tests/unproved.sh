@@ -13,7 +13,7 @@ set -euo pipefail
 cd "$(dirname "${BASH_SOURCE[0]}")/.."
 source tests/judge.sh
 declare -A needs=(
-    [examples]="blaze_int blaze_table blaze_streams range_map_blaze range_map_multi demo_keys"
+    [examples]="blaze_int blaze_entries blaze_table blaze_streams blaze_iters range_map_blaze range_map_multi demo_keys"
     [crate_examples]="range_map_blaze range_map_multi demo_keys"
     [library]="jiff_core blaze_int blaze_table blaze_streams blaze_iters range_map_blaze range_map_cli demo_keys"
     [bench_library]="range_map_blaze range_map_multi"

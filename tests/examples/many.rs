@@ -1,7 +1,7 @@
 //! Operations between many owned maps, in an array and as streams, and their joins.
 use crate::maps::{Letters, Numbers, map_of};
 use crate::streams::show;
-use blaze_streams::RangeValuesIter;
+use blaze_iters::RangeValuesIter;
 use range_map_blaze::RangeMapBlaze;
 use range_map_multi::{MultiwayRangeMapBlaze, MultiwayRangeMapBlazeRef, MultiwaySortedDisjointMap};
 use std::alloc::AllocError;

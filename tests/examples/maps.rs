@@ -1,5 +1,5 @@
 //! Maps in loops, of streams and in their order; closures with a state.
-ghost use Rattle.blaze_table.specs.Painted.{ClonesAreAlike};
+ghost use Rattle.blaze_entries.specs.Painted.{ClonesAreAlike};
 
 use range_map_blaze::{IntoRangeMapBlaze, RangeMapBlaze, Turns};
 use std::alloc::{AllocError, Global};

@@ -1,7 +1,8 @@
 //! Values that are moved and not cloned: the clone of each of them fails.
 use crate::stubborn::{Stubborn, deaf};
-use blaze_streams::{OwnedRangeValuesIter, SortedDisjointMap, canonical_of, union_of};
-use blaze_table::RangeTable;
+use blaze_iters::OwnedRangeValuesIter;
+use blaze_streams::{SortedDisjointMap, union_of};
+use blaze_table::{RangeTable, canonical_of};
 use range_map_blaze::{RangeMapBlaze, RangeSetBlaze};
 use std::alloc::{AllocError, Global};
 use std::ops::RangeInclusive;

@@ -1,5 +1,5 @@
 //! Tables: paints by both bodies, by one walk and by single lookups, and the entry below a key.
-ghost use Rattle.blaze_table.specs.Painted.{ClonesAreAlike};
+ghost use Rattle.blaze_entries.specs.Painted.{ClonesAreAlike};
 
 use blaze_int::Integer;
 use blaze_int::compare::is_at_most;

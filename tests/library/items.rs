@@ -1,9 +1,9 @@
 //! Calls of tables, iterators and streams that no other program here makes.
-use blaze_iters::{IntoIterMap, IntoKeys, IntoValues, IterMap, Keys, Values};
-use blaze_streams::{
-    CanonIter, CanonMapIter, MapIntoRangesIter, MapRangesIter, MultiwaySweep, RangeValuesIter,
-    SweepEvent,
+use blaze_iters::{
+    IntoIterMap, IntoKeys, IntoValues, IterMap, Keys, MapIntoRangesIter, MapRangesIter,
+    RangeValuesIter, Values,
 };
+use blaze_streams::{CanonIter, CanonMapIter, MultiwaySweep, SweepEvent};
 use blaze_table::RangeTable;
 use std::alloc::{AllocError, Global};
 use std::ops::RangeInclusive;

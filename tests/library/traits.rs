@@ -1,12 +1,14 @@
 //! The traits of the libraries' types. The test is that it compiles.
 use blaze_int::{Integer, SafeLength, UIntPlusOne};
-use blaze_iters::{IntoIterMap, IntoKeys, IntoValues, IterMap, Keys, Values};
+use blaze_iters::{
+    IntoIterMap, IntoKeys, IntoRangeValuesIter, IntoValues, IterMap, Keys, MapIntoRangesIter,
+    MapRangesIter, RangeValuesIter, Values,
+};
 use blaze_streams::{
     BothEnds, CanonIter, CanonMapIter, CheckSortedDisjoint, CheckSortedDisjointMap,
-    IntoRangeValuesIter, MapIntoRangesIter, MapRangesIter, MultiwayFullJoinMap,
-    MultiwayInnerJoinMap, MultiwayIntersectionMap, MultiwaySweep, MultiwaySymmetricDifferenceMap,
-    MultiwayUnionMap, NotSorted, Owned, RangeValuesIter, SortedDisjoint, SortedDisjointMap,
-    SweepEvent, ValueCarrier,
+    MultiwayFullJoinMap, MultiwayInnerJoinMap, MultiwayIntersectionMap, MultiwaySweep,
+    MultiwaySymmetricDifferenceMap, MultiwayUnionMap, NotSorted, Owned, SortedDisjoint,
+    SortedDisjointMap, SweepEvent, ValueCarrier,
 };
 use blaze_table::{IntoRangesIter, RangeSetBlaze, RangeTable, RangesIter};
 use range_map_blaze::RangeMapBlaze;

@@ -17,4 +17,7 @@ pub mod Underway
 pub mod Scans
 pub mod InTurn
 pub mod Asked
+pub mod Canonical
+pub mod Paints
+pub mod Lists
 mod Words

@@ -9,3 +9,17 @@ pub mod Overlap
 pub mod Walked
 pub mod Answers
 pub mod NodeAnswers
+pub mod Canonical
+pub mod Chosen
+pub mod Complement
+pub mod Count
+pub mod Cut
+pub mod Ending
+pub mod Equality
+pub mod Laws
+pub mod Painted
+pub mod Pairs
+pub mod RangeSets
+pub mod Splice
+pub mod Table
+pub mod Whole

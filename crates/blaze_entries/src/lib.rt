@@ -12,6 +12,7 @@ mod overlap;
 mod range;
 mod range_entry;
 mod scan;
+mod sorted_disjoint;
 mod start;
 mod tree;
 
@@ -24,3 +25,4 @@ pub use overlap::length_outside;
 pub use range::Range;
 pub use range_entry::RangeEntry;
 pub use scan::{Plan, Walk, next_or_last};
+pub use sorted_disjoint::SortedDisjoint;

@@ -3,8 +3,8 @@ use Rattle.std.specs.Prelude.{◌≡◌, ℤ, pos, ◌+ℤ◌, ◌≤ℤ◌, Lis
 use Rattle.std.specs.Iterator.{YieldsFirstBy, YieldsLastBy}
 use Rattle.std.specs.Option.{option_to_list}
 use Rattle.blaze_entries.specs.declared.range_entry.RangeEntry.{RangeEntry}
-use Rattle.blaze_table.specs.Entries.{Entry, shown_range_entry}
-use Rattle.blaze_table.specs.Pairs.{pair_list}
+use Rattle.blaze_entries.specs.Entries.{Entry, shown_range_entry}
+use Rattle.blaze_entries.specs.Pairs.{pair_list}
 
 -- the remaining part of the range that is open at each end, as an entry, and the iterator of the ranges between
 pub record RangesLeft (V I : Type 0) : Type 0 where

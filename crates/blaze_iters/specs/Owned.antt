@@ -2,8 +2,8 @@
 use Rattle.std.specs.Prelude.{◌≡◌, ℤ, ◌<ℤ◌, Bool, true, List, [], ◌∷◌, ◌++◌, Option, None, Some, MatchOption, Result, MatchResult}
 use Rattle.std.specs.declared.alloc.AllocError.{AllocError}
 use Rattle.blaze_entries.specs.declared.range_entry.RangeEntry.{RangeEntry}
-use Rattle.blaze_table.specs.Entries.{Entry}
-use Rattle.blaze_table.specs.Canonical.{IsDisjoint}
+use Rattle.blaze_entries.specs.Entries.{Entry}
+use Rattle.blaze_entries.specs.Canonical.{IsDisjoint}
 use Rattle.blaze_iters.specs.Left.{RangesLeft, unopened, ranges_left, AreEndsFull, OpensFirst, OpensLast, IsRestAfter, IsRestBefore}
 
 -- the remaining ranges of an owned iterator

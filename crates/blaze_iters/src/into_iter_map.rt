@@ -2,9 +2,9 @@
 ghost use Rattle.std.specs.Prelude.{◌≡◌, ◌≤◌, [], length, None, IfSome, IfNone, unwrap_or};
 ghost use Rattle.std.specs.Iterator.{YieldsFirstBy, YieldsLastBy, item_count, UpTo};
 ghost use Rattle.std.specs.Iterator.SizeHint.{IsWithinCount};
-ghost use Rattle.blaze_table.specs.Entries.{shown_range_entry};
-ghost use Rattle.blaze_table.specs.Painted.{ClonesAreAlike};
-ghost use Rattle.blaze_table.specs.Pairs.{pair_list};
+ghost use Rattle.blaze_entries.specs.Entries.{shown_range_entry};
+ghost use Rattle.blaze_entries.specs.Painted.{ClonesAreAlike};
+ghost use Rattle.blaze_entries.specs.Pairs.{pair_list};
 ghost use Rattle.blaze_iters.specs.Left.{unopened, shown_left, OpensFirst, OpensLast};
 ghost use Rattle.blaze_iters.specs.Left.{YieldsOpeningFirst, YieldsOpeningLast, pairs_left};
 ghost use Rattle.blaze_iters.specs.Left.{keys_left};

@@ -2,7 +2,7 @@
 ghost use Rattle.std.specs.Prelude.{◌≡◌, length, None, IfSome, map};
 ghost use Rattle.std.specs.Iterator.{item_count, UpTo};
 ghost use Rattle.std.specs.Iterator.SizeHint.{IsWithinCount};
-ghost use Rattle.blaze_table.specs.Pairs.{pair_list};
+ghost use Rattle.blaze_entries.specs.Pairs.{pair_list};
 ghost use Rattle.blaze_iters.specs.Left.{unopened, keys_left, YieldsOpeningFirst};
 ghost use Rattle.blaze_iters.specs.Left.{YieldsOpeningLast};
 

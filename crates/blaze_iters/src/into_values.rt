@@ -2,8 +2,8 @@
 ghost use Rattle.std.specs.Prelude.{◌≡◌, length, None, IfSome, map};
 ghost use Rattle.std.specs.Iterator.{item_count, UpTo};
 ghost use Rattle.std.specs.Iterator.SizeHint.{IsWithinCount};
-ghost use Rattle.blaze_table.specs.Painted.{ClonesAreAlike};
-ghost use Rattle.blaze_table.specs.Pairs.{pair_list};
+ghost use Rattle.blaze_entries.specs.Painted.{ClonesAreAlike};
+ghost use Rattle.blaze_entries.specs.Pairs.{pair_list};
 ghost use Rattle.blaze_iters.specs.Left.{unopened, values_left};
 ghost use Rattle.blaze_iters.specs.Owned.{GivesFirst, GivesLast, IsLike};
 

@@ -2,14 +2,15 @@
 ghost use Rattle.std.specs.Prelude.{◌≡◌, [], None, IfSome, IfNone};
 ghost use Rattle.std.specs.Iterator.{item_count, UpTo};
 ghost use Rattle.std.specs.Iterator.SizeHint.{IsWithinCount};
-ghost use Rattle.blaze_table.specs.Pairs.{pair_list};
+ghost use Rattle.blaze_entries.specs.Pairs.{pair_list};
 ghost use Rattle.blaze_iters.specs.Left.{RangesLeft, unopened, shown_left, AreEndsFull, OpensFirst};
 ghost use Rattle.blaze_iters.specs.Left.{OpensLast, YieldsOpeningFirst, YieldsOpeningLast};
 ghost use Rattle.blaze_iters.specs.Left.{ranges_left, pairs_left, shown_key_value};
 
 use crate::rest::{first_pair, last_pair};
+use crate::tables::range_values::RangeValuesIter;
 use blaze_int::Integer;
-use blaze_streams::{BothEnds, RangeValuesIter, SortedDisjointMap, ValueCarrier};
+use blaze_streams::{BothEnds, SortedDisjointMap, ValueCarrier};
 use blaze_table::{RangeEntry, RangeTable};
 use std::iter::FusedIterator;
 use std::marker::Model;

@@ -1,6 +1,6 @@
 //! The first and the last key of an open range, taken in place.
 ghost use Rattle.std.specs.Prelude.{◌≤ℤ◌, IfSome};
-ghost use Rattle.blaze_table.specs.Painted.{ClonesAreAlike};
+ghost use Rattle.blaze_entries.specs.Painted.{ClonesAreAlike};
 ghost use Rattle.blaze_iters.specs.Left.{IsSecond, IsSecondLast, TakesFirst, TakesLast};
 ghost use Rattle.blaze_iters.specs.Owned.{TakesFirstLike, TakesLastLike};
 

@@ -2,13 +2,14 @@
 ghost use Rattle.std.specs.Prelude.{◌≡◌, None, IfSome, map};
 ghost use Rattle.std.specs.Iterator.{item_count, UpTo};
 ghost use Rattle.std.specs.Iterator.SizeHint.{IsWithinCount};
-ghost use Rattle.blaze_table.specs.Pairs.{pair_list};
+ghost use Rattle.blaze_entries.specs.Pairs.{pair_list};
 ghost use Rattle.blaze_iters.specs.Left.{RangesLeft, unopened, values_left, YieldsOpeningFirst};
 ghost use Rattle.blaze_iters.specs.Left.{YieldsOpeningLast};
 
 use crate::iter_map::IterMap;
+use crate::tables::range_values::RangeValuesIter;
 use blaze_int::Integer;
-use blaze_streams::{BothEnds, RangeValuesIter, SortedDisjointMap, ValueCarrier};
+use blaze_streams::{BothEnds, SortedDisjointMap, ValueCarrier};
 use blaze_table::RangeTable;
 use std::iter::FusedIterator;
 use std::marker::Model;

@@ -1,5 +1,5 @@
 -- The part of a list above a key that its first range reaches.
-use Rattle.blaze_table.proofs.Paints.Splices.{after_cuts}
+use Rattle.blaze_entries.proofs.Paints.Splices.{after_cuts}
 use Rattle.blaze_streams.proofs.Words.{◌≡◌, ℤ, pos, ◌+ℤ◌, ◌≤ℤ◌, ◌<ℤ◌, Bool, List, [], ◌∷◌, Some, ◌∙◌, sym, subst, ap, arith, ints, int_max, by_lt_z, Entry, entry, at, at_in, IsCanonical, after, after_keeps, after_skips, canonical_after, FirstHas}
 
 module _ {V : Type 0} where

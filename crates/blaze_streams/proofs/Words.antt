@@ -33,9 +33,32 @@ pub use Rattle.std.specs.declared.cmp.Ordering.{Ordering}
 pub use Rattle.std.specs.declared.cmp.Ordering.TheVariants.{Less, Equal, Greater}
 pub use Rattle.std.specs.declared.ops.RangeInclusive.{RangeInclusive}
 pub use Rattle.blaze_entries.proofs.Alike.{same_along, or_none, or_assoc, same_none, same_itself, same_trans, same_or_left, same_or_right, same_back, none_or, is_some_alike, same_or}
+pub use Rattle.blaze_entries.proofs.Canonical.Clones.{same_cloned}
+pub use Rattle.blaze_entries.proofs.Canonical.Counted.{are_keys_as, are_keys_glue}
+pub use Rattle.blaze_entries.proofs.Canonical.ListLaws.{canonical_is_unique}
+pub use Rattle.blaze_entries.proofs.Canonical.Lookup.{at_in, at_under, at_over, by_place, at_append, IsAbove-from_apart, at_before, IsAbove, above_low, above_rest}
+pub use Rattle.blaze_entries.proofs.Canonical.Parts.{IsRangeMap-rest, IsRangeMap-front}
+pub use Rattle.blaze_entries.proofs.Canonical.Runs.{one_per_run, canonical, in_order}
+pub use Rattle.blaze_entries.proofs.Canonical.Unique.{breaks}
+pub use Rattle.blaze_entries.proofs.Lists.Ending.{ending_all, ending_skips, ending_takes}
+pub use Rattle.blaze_entries.proofs.Lists.Glued.{IsBelow-push, and_both}
+pub use Rattle.blaze_entries.proofs.Lists.Indexed.{from_index}
+pub use Rattle.blaze_entries.proofs.Lists.Orders.{tail_sorted, not_less}
+pub use Rattle.blaze_entries.proofs.Lists.Pushed.{has_last, pushed_joined, pushed_apart}
+pub use Rattle.blaze_entries.proofs.Lists.UnitLaws.{unit_laws}
+pub use Rattle.blaze_entries.proofs.Paints.Painted.{canonical_as, glue-nil}
+pub use Rattle.blaze_entries.proofs.Paints.Splices.{below_more, after_keeps, at-after_over, by_after, above_after, canonical_after, canonical_glue, at_glue, below_glue, after_skips}
 pub use Rattle.blaze_entries.proofs.Steps.{goes_last, goes_first}
+pub use Rattle.blaze_entries.specs.Canonical.{IsCanonical, IsRangeMap, IsApart, IsOnePerRun, AreKeys, IsDisjoint, IsAscending}
+pub use Rattle.blaze_entries.specs.Chosen.{left_alone, left_with_right, IsChosen, right_first}
 pub use Rattle.blaze_entries.specs.Cloned.{AreCloned}
+pub use Rattle.blaze_entries.specs.Complement.{value_if_none, IsComplement}
+pub use Rattle.blaze_entries.specs.Ending.{ending_from}
+pub use Rattle.blaze_entries.specs.Entries.{Entry, at, SameOption, entry, SameEntries, holds, shown_entry, shown_list}
 pub use Rattle.blaze_entries.specs.Found.{range_in, shown_ends}
+pub use Rattle.blaze_entries.specs.Painted.{ClonesAreAlike}
+pub use Rattle.blaze_entries.specs.RangeSets.{unit_eq, IsRangeSet, shown_bare_range, shown_bare_ranges}
+pub use Rattle.blaze_entries.specs.Splice.{IsBelow, after, glue}
 pub use Rattle.blaze_entries.specs.Starts.{first_entry}
 pub use Rattle.blaze_int.proofs.Comparisons.{le_true, le_false, lt_false, eq_true, eq_holds, and_fails, by_bool, lt_true, le_fails, lt_fails, lt_holds}
 pub use Rattle.blaze_int.proofs.Naturals.{nat_of-pos, next_differs}
@@ -51,7 +74,6 @@ pub use Rattle.blaze_streams.specs.Fills.{with_none, none_before, filled_entries
 pub use Rattle.blaze_streams.specs.Gaps.{gap_before, gaps, rank_or_end}
 pub use Rattle.blaze_streams.specs.JoinLaws.{as_row, AnswersKeepKeys, LeftJoinHasLeftKeys, FullJoinIsOfListOfTwo, FullJoinIsInner}
 pub use Rattle.blaze_streams.specs.Joins.{is_joined, pair_eq, piece_of, IsJoinOf, IsCarriedJoin, IsSegmentPut, paired, IsLetGo, IsNotAsked, IsSkipped}
-pub use Rattle.blaze_streams.specs.KeyRanges.{TakesLastEnds, joined_ranges, joined_left, bare_entries, ranges_then, AreKeyRanges, TakesEnds}
 pub use Rattle.blaze_streams.specs.LastParts.{IsLastPart, IsSought}
 pub use Rattle.blaze_streams.specs.Many.{has_odd, last_value, last_of_all}
 pub use Rattle.blaze_streams.specs.Merges.{GivesEach, GivesBoth}
@@ -65,26 +87,3 @@ pub use Rattle.blaze_streams.specs.declared.events.sweep_event.SweepEvent.TheVar
 pub use Rattle.blaze_streams.specs.declared.segmenting.joins.JoinKind.{JoinKind}
 pub use Rattle.blaze_streams.specs.declared.segmenting.joins.JoinKind.TheVariants.{Inner, Left, Full}
 pub use Rattle.blaze_streams.specs.declared.segmenting.list_segments.Segment.{Segment}
-pub use Rattle.blaze_table.proofs.Canonical.Clones.{same_cloned}
-pub use Rattle.blaze_table.proofs.Canonical.Counted.{are_keys_as, are_keys_glue}
-pub use Rattle.blaze_table.proofs.Canonical.ListLaws.{canonical_is_unique}
-pub use Rattle.blaze_table.proofs.Canonical.Lookup.{at_in, at_under, at_over, by_place, at_append, IsAbove-from_apart, at_before, IsAbove, above_low, above_rest}
-pub use Rattle.blaze_table.proofs.Canonical.Parts.{IsRangeMap-rest, IsRangeMap-front}
-pub use Rattle.blaze_table.proofs.Canonical.Runs.{one_per_run, canonical, in_order}
-pub use Rattle.blaze_table.proofs.Canonical.Unique.{breaks}
-pub use Rattle.blaze_table.proofs.Neighbours.Ending.{ending_all, ending_skips, ending_takes}
-pub use Rattle.blaze_table.proofs.Neighbours.Glued.{IsBelow-push, and_both}
-pub use Rattle.blaze_table.proofs.Paints.Painted.{canonical_as, glue-nil}
-pub use Rattle.blaze_table.proofs.Paints.Splices.{below_more, after_keeps, at-after_over, by_after, above_after, canonical_after, canonical_glue, at_glue, below_glue, after_skips}
-pub use Rattle.blaze_table.proofs.Pairs.Indexed.{from_index}
-pub use Rattle.blaze_table.proofs.Pairs.UnitLaws.{unit_laws}
-pub use Rattle.blaze_table.proofs.Sweeping.Orders.{tail_sorted, not_less}
-pub use Rattle.blaze_table.proofs.Sweeping.Pushed.{has_last, pushed_joined, pushed_apart}
-pub use Rattle.blaze_table.specs.Canonical.{IsCanonical, IsRangeMap, IsApart, IsOnePerRun, AreKeys, IsDisjoint, IsAscending}
-pub use Rattle.blaze_table.specs.Chosen.{left_alone, left_with_right, IsChosen, right_first}
-pub use Rattle.blaze_table.specs.Complement.{value_if_none, IsComplement}
-pub use Rattle.blaze_table.specs.Ending.{ending_from}
-pub use Rattle.blaze_table.specs.Entries.{Entry, at, SameOption, entry, SameEntries, holds, shown_entry, shown_list}
-pub use Rattle.blaze_table.specs.Painted.{ClonesAreAlike}
-pub use Rattle.blaze_table.specs.RangeSets.{unit_eq, IsRangeSet, shown_bare_range, shown_bare_ranges}
-pub use Rattle.blaze_table.specs.Splice.{IsBelow, after, glue}

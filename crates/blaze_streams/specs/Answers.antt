@@ -2,8 +2,8 @@
 use Rattle.std.specs.Prelude.{◌≡◌, ℤ, Bool, List, [], ◌∷◌, ◌++◌, length, map}
 use Rattle.std.specs.Fn.{Mut, Called, Takes}
 use Rattle.std.specs.List.{FoldsTo, zip}
-use Rattle.blaze_table.specs.Entries.{Entry, entry, at, SameOption}
-use Rattle.blaze_table.specs.Canonical.{IsRangeMap}
+use Rattle.blaze_entries.specs.Entries.{Entry, entry, at, SameOption}
+use Rattle.blaze_entries.specs.Canonical.{IsRangeMap}
 
 -- the values of entries, in order
 abbrev pub values : {V : Type 0} → List (Entry V) → List V

@@ -2,8 +2,8 @@
 -- exports only for the crates above it. No clause for users of the streams uses them.
 use Rattle.std.specs.Prelude.{◌≡◌, ℤ, ◌≤ℤ◌, ◌<ℤ◌, Bool, List, [], ◌∷◌, Option, Some, None}
 use Rattle.blaze_entries.specs.declared.range_entry.RangeEntry.{RangeEntry}
-use Rattle.blaze_table.specs.Entries.{Entry, entry, at, shown_range_entry, SameOption}
-use Rattle.blaze_table.specs.Splice.{glue, after}
+use Rattle.blaze_entries.specs.Entries.{Entry, entry, at, shown_range_entry, SameOption}
+use Rattle.blaze_entries.specs.Splice.{glue, after}
 use Rattle.blaze_streams.specs.Cursors.{first_key, lesser}
 
 -- a stream's first range, if it was taken, followed by the remaining stream

@@ -1,9 +1,9 @@
 -- Cursors over lists. These definitions are for this crate's own functions and for those that it exports only for the
 -- crates above it. No clause for users of the streams uses them.
 use Rattle.std.specs.Prelude.{◌≡◌, ℤ, pos, ◌-ℤ◌, ◌≤ℤ◌, int_le, Bool, if◌then◌else◌, List, [], ◌∷◌, Option, Some, None}
-use Rattle.blaze_table.specs.Entries.{Entry}
-use Rattle.blaze_table.specs.Canonical.{IsCanonical}
-use Rattle.blaze_table.specs.Splice.{after}
+use Rattle.blaze_entries.specs.Entries.{Entry}
+use Rattle.blaze_entries.specs.Canonical.{IsCanonical}
+use Rattle.blaze_entries.specs.Splice.{after}
 use Rattle.blaze_streams.specs.Segments.{row}
 
 -- the first key of a list

@@ -2,7 +2,7 @@
 use Rattle.std.proofs.Common.{inl, inr}
 use Rattle.std.specs.Prelude.{◌≡◌, ℕ, ℤ, ◌⊎◌, refl}
 use Rattle.std.specs.Coded.{Coded, code_by, coded×, coded⊎, coded_ℕ, coded_ℤ}
-use Rattle.blaze_table.specs.Entries.{Entry, entry_code}
+use Rattle.blaze_entries.specs.Entries.{Entry, entry_code}
 
 -- an event of the input at a position: one of its entries starts, or the entry with this last key ends
 pub data Event (V : Type 0) : Type 0 where

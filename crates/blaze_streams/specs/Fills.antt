@@ -1,8 +1,8 @@
 -- A value at every key: `Some` of the value that a list of entries has, and `None` where it has none.
 use Rattle.std.specs.Prelude.{◌≡◌, ℤ, pos, ◌+ℤ◌, ◌≤ℤ◌, Bool, List, [], ◌∷◌, ◌++◌, map, Option, Some, None}
 use Rattle.std.specs.Option.{option_eq}
-use Rattle.blaze_table.specs.Entries.{Entry, entry, at}
-use Rattle.blaze_table.specs.Canonical.{IsRangeMap}
+use Rattle.blaze_entries.specs.Entries.{Entry, entry, at}
+use Rattle.blaze_entries.specs.Canonical.{IsRangeMap}
 use Rattle.blaze_streams.specs.Gaps.{gap_before}
 
 -- a range map whose value at each key is `Some` of the entries' value, or `None` if they have none

@@ -1,6 +1,6 @@
 -- The ranges between a list's ranges.
 use Rattle.std.specs.Prelude.{ℤ, pos, ◌+ℤ◌, ◌-ℤ◌, int_lt, if◌then◌else◌, List, [], ◌∷◌, ◌++◌, Option, Some, None}
-use Rattle.blaze_table.specs.Entries.{Entry, entry}
+use Rattle.blaze_entries.specs.Entries.{Entry, entry}
 
 -- the rank of a key, or one more than the greatest rank if the key is `None`
 abbrev pub rank_or_end : {T : Type 0} → (T → ℤ) → ℤ → Option T → ℤ

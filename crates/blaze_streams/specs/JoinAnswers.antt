@@ -1,7 +1,7 @@
 -- The results of a closure at the segments of two lists.
 use Rattle.std.specs.Prelude.{ℤ, Bool, List, Option, Some}
 use Rattle.std.specs.Fn.{Mut}
-use Rattle.blaze_table.specs.Entries.{Entry}
+use Rattle.blaze_entries.specs.Entries.{Entry}
 use Rattle.blaze_streams.specs.declared.segmenting.joins.JoinKind.{JoinKind}
 use Rattle.blaze_streams.specs.Carried.{shown_option}
 use Rattle.blaze_streams.specs.Answers.{values, IsCallableAtEachValue, IsTransformed}

@@ -1,7 +1,7 @@
 -- The laws of joins and of the results of closures.
 use Rattle.std.specs.Prelude.{◌≡◌, ℤ, Bool, List, [], ◌∷◌, length, map, Option}
 use Rattle.std.specs.Option.{is_some}
-use Rattle.blaze_table.specs.Entries.{Entry, entry, at, SameOption}
+use Rattle.blaze_entries.specs.Entries.{Entry, entry, at, SameOption}
 use Rattle.blaze_streams.specs.declared.segmenting.joins.JoinKind.TheVariants.{Inner, Left, Full}
 use Rattle.blaze_streams.specs.Answers.{entries_with_results}
 use Rattle.blaze_streams.specs.Joins.{IsJoinOf}

@@ -3,9 +3,9 @@
 use Rattle.std.specs.Prelude.{◌≡◌, ℤ, ◌≤ℤ◌, Bool, true, false, ◌&&◌, ◌||◌, if◌then◌else◌, List, [], ◌∷◌, ◌++◌, Option, Some, None, MatchOption}
 use Rattle.std.specs.Option.{option_eq, is_some}
 use Rattle.blaze_entries.specs.Cloned.{AreCloned}
-use Rattle.blaze_table.specs.Entries.{Entry, entry, at}
-use Rattle.blaze_table.specs.Canonical.{IsRangeMap}
-use Rattle.blaze_table.specs.Splice.{after}
+use Rattle.blaze_entries.specs.Entries.{Entry, entry, at}
+use Rattle.blaze_entries.specs.Canonical.{IsRangeMap}
+use Rattle.blaze_entries.specs.Splice.{after}
 use Rattle.blaze_streams.specs.declared.segmenting.joins.JoinKind.{JoinKind}
 use Rattle.blaze_streams.specs.declared.segmenting.joins.JoinKind.TheVariants.{Inner, Left, Full}
 use Rattle.blaze_streams.specs.Carried.{AreOptions, ArePairsCarried}

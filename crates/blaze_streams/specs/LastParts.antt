@@ -1,7 +1,7 @@
 -- Suffixes of lists.
 use Rattle.std.specs.Prelude.{◌≡◌, ℤ, List, ◌++◌}
-use Rattle.blaze_table.specs.Entries.{Entry}
-use Rattle.blaze_table.specs.Splice.{IsBelow}
+use Rattle.blaze_entries.specs.Entries.{Entry}
+use Rattle.blaze_entries.specs.Splice.{IsBelow}
 
 -- `rest` is a suffix of the list
 pub record IsLastPart {A : Type 0} (list rest : List A) : Type 0 where

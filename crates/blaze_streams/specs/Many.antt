@@ -3,9 +3,9 @@
 use Rattle.std.specs.Prelude.{ℤ, Bool, false, not, if◌then◌else◌, List, [], ◌∷◌, Option, Some, None}
 use Rattle.std.specs.Option.{is_some}
 use Rattle.std.specs.List.{list_all}
-use Rattle.blaze_table.specs.Entries.{Entry, at, SameOption}
-use Rattle.blaze_table.specs.Canonical.{IsRangeMap}
-use Rattle.blaze_table.specs.Chosen.{right_first}
+use Rattle.blaze_entries.specs.Entries.{Entry, at, SameOption}
+use Rattle.blaze_entries.specs.Canonical.{IsRangeMap}
+use Rattle.blaze_entries.specs.Chosen.{right_first}
 use Rattle.blaze_streams.specs.Segments.{row}
 
 -- the value of the last that has one

@@ -1,6 +1,6 @@
 -- Operations between many streams that are made by operations between two. No public clause names these words.
 use Rattle.std.specs.Prelude.{ℤ, ◌<◌, List, ◌++◌, length, Option}
-use Rattle.blaze_table.specs.Entries.{Entry, at}
+use Rattle.blaze_entries.specs.Entries.{Entry, at}
 use Rattle.blaze_streams.specs.Segments.{row}
 
 module _ {V : Type 0} (gives : List (Option V) → Option V → Type 0) where

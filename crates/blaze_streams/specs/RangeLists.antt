@@ -1,7 +1,7 @@
 -- Lists of ranges with carriers, seen as entries.
 use Rattle.std.specs.Prelude.{ℤ, ◌≤ℤ◌, List, map}
 use Rattle.std.specs.declared.ops.RangeInclusive.{RangeInclusive}
-use Rattle.blaze_table.specs.Entries.{Entry}
+use Rattle.blaze_entries.specs.Entries.{Entry}
 use Rattle.blaze_streams.specs.Ranges.{shown_range}
 
 -- a list of ranges with carriers, as entries

@@ -2,7 +2,7 @@
 use Rattle.std.specs.Prelude.{ℤ}
 use Rattle.std.specs.declared.ops.RangeInclusive.{RangeInclusive}
 use Rattle.std.specs.Range.{range_inclusive_start, range_inclusive_end}
-use Rattle.blaze_table.specs.Entries.{Entry}
+use Rattle.blaze_entries.specs.Entries.{Entry}
 
 -- a range and its carrier, as an entry
 abbrev pub shown_range : {T R V : Type 0} → (T → ℤ) → (R → V) → RangeInclusive T × R → Entry V

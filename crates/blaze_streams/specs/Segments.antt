@@ -5,8 +5,8 @@ use Rattle.std.specs.Option.{option_eq, is_some}
 use Rattle.std.specs.List.{list_any}
 use Rattle.std.specs.Cmp.Lexicographic.{pointwise}
 use Rattle.std.specs.Global.{Vec}
-use Rattle.blaze_table.specs.Entries.{Entry, entry, at}
-use Rattle.blaze_table.specs.Canonical.{IsDisjoint, IsAscending, IsOnePerRun}
+use Rattle.blaze_entries.specs.Entries.{Entry, entry, at}
+use Rattle.blaze_entries.specs.Canonical.{IsDisjoint, IsAscending, IsOnePerRun}
 use Rattle.blaze_streams.specs.declared.segmenting.list_segments.Segment.{Segment}
 
 -- the ranges of a list as entries, each with its position as its value; the first has the position i

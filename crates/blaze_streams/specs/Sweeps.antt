@@ -3,8 +3,8 @@ use Rattle.std.specs.Prelude.{ℕ, ◌+◌, ℤ, pos, ◌+ℤ◌, ◌≤ℤ◌, 
 use Rattle.std.specs.Iterator.{YieldsFirstBy}
 use Rattle.std.specs.List.Sorted.{IsPermutation}
 use Rattle.std.specs.Range.{range_inclusive_start}
-use Rattle.blaze_table.specs.Entries.{Entry}
-use Rattle.blaze_table.specs.Whole.{IsWhole}
+use Rattle.blaze_entries.specs.Entries.{Entry}
+use Rattle.blaze_entries.specs.Whole.{IsWhole}
 use Rattle.blaze_streams.specs.Events.{Event, Starts, Ends}
 use Rattle.blaze_streams.specs.Ranges.{shown_range}
 use Rattle.blaze_streams.specs.declared.events.sweep_event.SweepEvent.{SweepEvent}

@@ -1,7 +1,7 @@
 -- The first item of a list that violates the law of a stream.
 use Rattle.std.specs.Prelude.{◌≡◌, ℕ, zero, suc, ◌<◌, pos, ◌+ℤ◌, int_le, int_lt, Bool, true, ◌&&◌, ◌||◌, List, [], ◌∷◌, Option, Some, None}
 use Rattle.std.specs.Ordering.{int_eq}
-use Rattle.blaze_table.specs.Entries.{Entry}
+use Rattle.blaze_entries.specs.Entries.{Entry}
 
 -- The entry violates the law after the previous one, if one exists. Its range is empty, or does not start above the
 -- previous end, or touches an equal value.

@@ -1,7 +1,7 @@
 //! Carriers: what a stream yields to represent a value.
 ghost use Rattle.std.specs.Prelude.{◌≡◌, true, IfOk, ⊤};
 ghost use Rattle.std.specs.Rc.{rc_value};
-ghost use Rattle.blaze_table.specs.Painted.{ClonesAreAlike};
+ghost use Rattle.blaze_entries.specs.Painted.{ClonesAreAlike};
 ghost use Rattle.blaze_streams.specs.Carried.{shown_option, AreOptions};
 
 use std::alloc::AllocError;

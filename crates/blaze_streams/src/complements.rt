@@ -1,11 +1,11 @@
 //! The complement of a set of keys.
 ghost use Rattle.std.specs.Prelude.{◌≡◌, pos, ◌+ℤ◌, ◌++◌, IfOk, OnOk};
-ghost use Rattle.blaze_table.specs.Complement.{IsComplement};
-ghost use Rattle.blaze_table.specs.RangeSets.{shown_bare_ranges, unit_eq};
+ghost use Rattle.blaze_entries.specs.Complement.{IsComplement};
+ghost use Rattle.blaze_entries.specs.RangeSets.{shown_bare_ranges, unit_eq};
 ghost use Rattle.blaze_streams.specs.Gaps.{gap_before, rank_or_end};
 
 use crate::lists::canon::CanonIter;
-use crate::sorted_disjoint::SortedDisjoint;
+use blaze_entries::SortedDisjoint;
 use blaze_int::Integer;
 use blaze_int::compare::is_below;
 use std::alloc::{AllocError, Global};

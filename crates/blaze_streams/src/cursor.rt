@@ -4,18 +4,18 @@ ghost use Rattle.std.specs.Int.{int_max};
 ghost use Rattle.std.specs.Option.{option_map};
 ghost use Rattle.blaze_entries.specs.Found.{range_in, shown_ends};
 ghost use Rattle.blaze_entries.specs.Starts.{first_entry};
-ghost use Rattle.blaze_table.specs.Entries.{at, SameOption};
-ghost use Rattle.blaze_table.specs.Canonical.{IsCanonical};
-ghost use Rattle.blaze_table.specs.Splice.{after};
+ghost use Rattle.blaze_entries.specs.Entries.{at, SameOption};
+ghost use Rattle.blaze_entries.specs.Canonical.{IsCanonical};
+ghost use Rattle.blaze_entries.specs.Splice.{after};
 ghost use Rattle.blaze_streams.specs.Carried.{shown_option, AreOptions, IsItOrCarried};
 ghost use Rattle.blaze_streams.specs.Choosing.{ahead_of};
 ghost use Rattle.blaze_streams.specs.Cursors.{first_key, steady_to, IsFrom, Reaches, FirstHas};
 
 use crate::carrier::ValueCarrier;
 use crate::sorted_disjoint_map::SortedDisjointMap;
+use blaze_entries::RangeEntry;
 use blaze_int::Integer;
 use blaze_int::compare::{greater, is_at_most, is_below};
-use blaze_table::RangeEntry;
 use std::alloc::AllocError;
 use std::marker::Model;
 use std::mem;
@@ -30,8 +30,8 @@ pub struct Cursor<T: Integer, VC: ValueCarrier, I: SortedDisjointMap<T, VC>> {
 impl<T: Integer, VC: ValueCarrier, I: SortedDisjointMap<T, VC>> Model for Cursor<T, VC, I> {
     ghost use Rattle.std.specs.Prelude.{List, [], IfNone, ◌≡◌};
     ghost use Rattle.std.specs.Coded.{coded_list};
-    ghost use Rattle.blaze_table.specs.Entries.{Entry, entry_code};
-    ghost use Rattle.blaze_table.specs.Canonical.{IsCanonical};
+    ghost use Rattle.blaze_entries.specs.Entries.{Entry, entry_code};
+    ghost use Rattle.blaze_entries.specs.Canonical.{IsCanonical};
     ghost use Rattle.blaze_streams.specs.Choosing.{ahead_of};
 
     ghost Value = { List (Entry VC.Value) };

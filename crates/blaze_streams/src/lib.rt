@@ -14,12 +14,10 @@ mod merge;
 mod multiway;
 mod owned;
 mod segmenting;
-mod sorted_disjoint;
 mod sorted_disjoint_map;
-mod tables;
 mod transforms;
 
-pub use blaze_table::canonical_of;
+pub use blaze_entries::SortedDisjoint;
 pub use carrier::ValueCarrier;
 pub use complements::complement;
 pub use events::multiway_sweep::MultiwaySweep;
@@ -40,12 +38,7 @@ pub use multiway::{
 pub use owned::Owned;
 pub use segmenting::joins::{JoinKind, join_of};
 pub use segmenting::list_segments::{Segment, segments};
-pub use sorted_disjoint::SortedDisjoint;
 pub use sorted_disjoint_map::{BothEnds, SortedDisjointMap};
-pub use tables::into_range_values::IntoRangeValuesIter;
-pub use tables::key_ranges::{KeyRanges, MapIntoRangesIter, MapRangesIter};
-pub use tables::owned_range_values::OwnedRangeValuesIter;
-pub use tables::range_values::RangeValuesIter;
 pub use transforms::transform;
 
 // For `range_map_blaze` only, which builds maps from chosen entries and joins from segments.
@@ -59,10 +52,6 @@ pub use fallible::Fallible;
 pub use merge::choice::{Choice, ExactlyOne, LeftAlone, LeftWithRight, RightFirst};
 #[doc(hidden)]
 pub use merge::chosen::entries_chosen_of;
-#[doc(hidden)]
-pub use tables::key_ranges::{into_ranges_of, ranges_of};
-#[doc(hidden)]
-pub use tables::seeking_range_values::SeekingRangeValuesIter;
 #[doc(hidden)]
 pub use transforms::answers_of;
 // For `range_map_multi` only, which walks many streams as this crate walks many lists.

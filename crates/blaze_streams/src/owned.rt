@@ -1,5 +1,5 @@
 //! A carrier that owns its value.
-ghost use Rattle.blaze_table.specs.Painted.{ClonesAreAlike};
+ghost use Rattle.blaze_entries.specs.Painted.{ClonesAreAlike};
 
 use crate::carrier::{HasValue, ValueCarrier};
 use std::alloc::AllocError;

@@ -2,8 +2,8 @@
 ghost use Rattle.std.specs.Prelude.{◌≡◌, ◌≤◌, ℕ, List, Option, length};
 ghost use Rattle.std.specs.Iterator.{YieldsFirstBy, YieldsLastBy, item_count};
 ghost use Rattle.std.specs.declared.ops.RangeInclusive.{RangeInclusive};
-ghost use Rattle.blaze_table.specs.Entries.{Entry};
-ghost use Rattle.blaze_table.specs.Canonical.{IsRangeMap};
+ghost use Rattle.blaze_entries.specs.Entries.{Entry};
+ghost use Rattle.blaze_entries.specs.Canonical.{IsRangeMap};
 ghost use Rattle.blaze_streams.specs.LastParts.{IsSought};
 ghost use Rattle.blaze_streams.specs.Ranges.{shown_range};
 

@@ -1,4 +1,3 @@
-pub mod Canonical
 pub mod Paints
 pub mod Neighbours
 pub mod Cuts

@@ -1,6 +1,3 @@
-pub mod Splices
-pub mod Kept
-pub mod Painted
 pub mod Inside
 pub mod Clearing
 pub mod Inner

@@ -2,8 +2,6 @@ pub mod PairLists
 pub mod AtPairs
 pub mod Keeping
 pub mod PairLaws
-pub mod UnitLaws
 pub mod Texts
 pub mod KeySets
 pub mod Lasts
-pub mod Indexed

@@ -2,10 +2,8 @@ pub mod Sweeps
 pub mod Canonicals
 pub mod PairValues
 pub mod Pieces
-pub mod Pushed
 pub mod Placed
 pub mod Underway
 pub mod Waitings
 pub mod Filling
 pub mod JoinedPieces
-pub mod Orders

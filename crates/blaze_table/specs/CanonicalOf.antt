@@ -1,9 +1,9 @@
 -- The canonical list of pairs: the result of painting them in order on an empty map. Each pair is a range with a value,
 -- seen as an entry, and the later of two pairs wins.
 use Rattle.std.specs.Prelude.{ℕ, ℤ, ◌+◌, ◌-◌, ◌*◌, ◌≤◌, int_le, length, Bool, if◌then◌else◌, List, [], ◌∷◌}
-use Rattle.blaze_table.specs.Entries.{Entry, at, SameOption}
-use Rattle.blaze_table.specs.Canonical.{IsRangeMap}
-use Rattle.blaze_table.specs.Painted.{painted_in_order}
+use Rattle.blaze_entries.specs.Entries.{Entry, at, SameOption}
+use Rattle.blaze_entries.specs.Canonical.{IsRangeMap}
+use Rattle.blaze_entries.specs.Painted.{painted_in_order}
 
 -- the number of pairs that have a key
 abbrev pub keyed_count : {V : Type 0} → List (Entry V) → ℕ

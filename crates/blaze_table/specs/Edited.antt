@@ -6,9 +6,9 @@ use Rattle.std.specs.Option.{option_map}
 use Rattle.blaze_entries.specs.Found.{range_in, shown_ends}
 use Rattle.blaze_entries.specs.Starts.{below, start_at, with_entry, IsStartMoved}
 use Rattle.blaze_entries.specs.declared.scan.Plan.{Plan}
-use Rattle.blaze_table.specs.Entries.{Entry, entry}
+use Rattle.blaze_entries.specs.Entries.{Entry, entry}
 use Rattle.blaze_table.specs.Planned.{inner_entries, moved_count, IsLikeAbove, IsTail}
-use Rattle.blaze_table.specs.Splice.{before}
+use Rattle.blaze_entries.specs.Splice.{before}
 
 -- the ends of an existing entry that extends above z, where no entry starts right above z
 abbrev pub HasRoom : {V : Type 0} → ℤ → List (Entry V) → Option (ℤ × ℤ) → Type 0

@@ -2,8 +2,8 @@
 use Rattle.std.specs.List.{Contains}
 use Rattle.std.specs.Option.{option_or}
 use Rattle.std.specs.Prelude.{◌≡◌, ◌⊎◌, ℤ, pos, ◌+ℤ◌, ◌≤ℤ◌, ◌<ℤ◌, int_le, Bool, ◌&&◌, if◌then◌else◌, List, Option, Some, None, IsSome}
-use Rattle.blaze_table.specs.Entries.{Entry, entry, at, SameOption}
-use Rattle.blaze_table.specs.Canonical.{IsRangeMap, IsRunStart, IsRunEnd}
+use Rattle.blaze_entries.specs.Entries.{Entry, entry, at, SameOption}
+use Rattle.blaze_entries.specs.Canonical.{IsRangeMap, IsRunStart, IsRunEnd}
 use Rattle.blaze_table.specs.Gap.{IsClearFrom}
 
 -- the content after the keys from l to h without a value get v; a key with a value keeps it

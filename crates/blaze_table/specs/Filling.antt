@@ -2,12 +2,12 @@
 use Rattle.std.specs.Prelude.{◌≡◌, ◌⊎◌, ◌↔◌, ℕ, ℤ, pos, ◌+ℤ◌, ◌-ℤ◌, ◌≤ℤ◌, ◌<ℤ◌, Bool, false, List, [], ◌∷◌, ◌++◌, Option, Some, IsSome, IsTrue}
 use Rattle.std.specs.List.{Contains}
 use Rattle.blaze_entries.specs.Starts.{start_at, with_entry, without}
-use Rattle.blaze_table.specs.Canonical.{AreKeys, IsCanonical, IsRunStart, HasStart}
-use Rattle.blaze_table.specs.Count.{keys_in}
-use Rattle.blaze_table.specs.Entries.{Entry, entry, at, SameOption, SameContent}
+use Rattle.blaze_entries.specs.Canonical.{AreKeys, IsCanonical, IsRunStart, HasStart}
+use Rattle.blaze_entries.specs.Count.{keys_in}
+use Rattle.blaze_entries.specs.Entries.{Entry, entry, at, SameOption, SameContent}
 use Rattle.blaze_table.specs.Filled.{filled_content, AreStartsKept, IsFirstGap, IsKeptIn}
 use Rattle.blaze_table.specs.Gap.{IsClearFrom}
-use Rattle.blaze_table.specs.Table.{IsTable}
+use Rattle.blaze_entries.specs.Table.{IsTable}
 
 -- no two values are equal
 abbrev pub never_equal : {V : Type 0} → V → V → Bool

@@ -2,10 +2,10 @@
 use Rattle.std.specs.Prelude.{◌≡◌, ℤ, Bool, true, List, [], ◌∷◌, ◌++◌, length}
 use Rattle.std.specs.List.{items_where_true}
 use Rattle.std.specs.List.Retain.{ReturnsInTurn}
-use Rattle.blaze_table.specs.Entries.{Entry, entry, at, SameOption}
-use Rattle.blaze_table.specs.Canonical.{IsCanonical, AreKeys}
-use Rattle.blaze_table.specs.Pairs.{value_at}
-use Rattle.blaze_table.specs.Splice.{glue, IsBelow}
+use Rattle.blaze_entries.specs.Entries.{Entry, entry, at, SameOption}
+use Rattle.blaze_entries.specs.Canonical.{IsCanonical, AreKeys}
+use Rattle.blaze_entries.specs.Pairs.{value_at}
+use Rattle.blaze_entries.specs.Splice.{glue, IsBelow}
 
 -- the list with the key k appended, with a value equal to v
 pub record AddsKey {V : Type 0} (eq : V → V → Bool) (k : ℤ) (v : V) (old new : List (Entry V)) : Type 0 where

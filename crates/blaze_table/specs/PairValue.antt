@@ -1,8 +1,8 @@
 -- The values of pairs, by their positions, in terms of this crate's own functions. No public clause uses them.
 use Rattle.std.specs.Prelude.{◌≡◌, ℕ, ◌-◌, length, ℤ, Bool, List, [], ◌∷◌, Option, Some, None, slice_get, slice_set}
 use Rattle.std.specs.Option.{option_map}
-use Rattle.blaze_table.specs.Entries.{Entry, entry, SameOption}
-use Rattle.blaze_table.specs.Splice.{glue}
+use Rattle.blaze_entries.specs.Entries.{Entry, entry, SameOption}
+use Rattle.blaze_entries.specs.Splice.{glue}
 use Rattle.blaze_table.specs.declared.sweep.pair_value.PairValue.{PairValue}
 use Rattle.blaze_table.specs.declared.sweep.pair_value.PairValue.TheVariants.{Present, Moved}
 use Rattle.blaze_table.specs.declared.sweep.placed.Placed.{Placed}

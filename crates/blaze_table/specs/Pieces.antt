@@ -4,7 +4,7 @@ use Rattle.std.specs.Prelude.{◌≡◌, ℕ, ◌<◌, ◌≤◌, ℤ, pos, ◌+
 use Rattle.std.specs.List.{Contains}
 use Rattle.std.specs.Ordering.{nat_cmp, ordering_then}
 use Rattle.std.specs.declared.cmp.Ordering.{Ordering}
-use Rattle.blaze_table.specs.Entries.{Entry, entry}
+use Rattle.blaze_entries.specs.Entries.{Entry, entry}
 use Rattle.blaze_table.specs.CanonicalOf.{IsCanonicalOf}
 use Rattle.blaze_table.specs.declared.sweep.placed.Placed.{Placed}
 

@@ -6,10 +6,10 @@ use Rattle.blaze_entries.specs.Counted.{CountedEntries}
 use Rattle.blaze_entries.specs.Found.{found_in}
 use Rattle.blaze_entries.specs.Starts.{below, from, last_below, start_at}
 pub use Rattle.blaze_entries.specs.Walked.{Seen, tail_of, inner_entries, moved_count}
-use Rattle.blaze_table.specs.Count.{keys_in}
-use Rattle.blaze_table.specs.Cut.{GoesOnAbove}
-use Rattle.blaze_table.specs.Entries.{Entry, entry}
-use Rattle.blaze_table.specs.Splice.{before, after, IsSameAbove}
+use Rattle.blaze_entries.specs.Count.{keys_in}
+use Rattle.blaze_entries.specs.Cut.{GoesOnAbove}
+use Rattle.blaze_entries.specs.Entries.{Entry, entry}
+use Rattle.blaze_entries.specs.Splice.{before, after, IsSameAbove}
 use Rattle.blaze_table.specs.Work.{IsCounted}
 
 -- ---- the plan

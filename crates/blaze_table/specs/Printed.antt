@@ -1,7 +1,7 @@
 -- The text of a printed set.
 use Rattle.std.specs.Prelude.{ℕ, ℤ, List, [], ◌∷◌, Option, Some, codes}
 use Rattle.std.specs.Fmt.{◌++?◌}
-use Rattle.blaze_table.specs.Entries.{Entry}
+use Rattle.blaze_entries.specs.Entries.{Entry}
 
 module _ {K : Type 0} (key_text : K → Option (List ℕ)) (of_rank : ℤ → K) where
   -- for example 1..=2, if the texts of the keys are known

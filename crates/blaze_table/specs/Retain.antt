@@ -5,9 +5,9 @@ use Rattle.std.specs.Fn.{Shared, FnReturns}
 use Rattle.std.specs.List.{All}
 use Rattle.std.specs.List.Retain.{IsFiltered}
 pub use Rattle.blaze_entries.specs.Answers.{AnswersAt, IsCallableAtEach}
-use Rattle.blaze_table.specs.Entries.{Entry, at, SameOption}
-use Rattle.blaze_table.specs.Canonical.{IsRangeMap}
-use Rattle.blaze_table.specs.Pairs.{pair_list, value_at}
+use Rattle.blaze_entries.specs.Entries.{Entry, at, SameOption}
+use Rattle.blaze_entries.specs.Canonical.{IsRangeMap}
+use Rattle.blaze_entries.specs.Pairs.{pair_list, value_at}
 
 -- a call of f with the key and the value of a pair may return r; f does not change
 pub record AnswersAtPair {F T V : Type 0} (g : Shared F (Bor T × (Bor V × Unit {0})) Bool) (f : F) (p : T × V) (r : Bool) (f' : F) : Type 0 where

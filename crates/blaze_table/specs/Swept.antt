@@ -1,8 +1,8 @@
 -- Lists built from the least key up, in terms of this crate's own functions. No public clause uses them.
 use Rattle.std.specs.Prelude.{◌≡◌, ℤ, pos, ◌+ℤ◌, ◌≤ℤ◌, ◌<ℤ◌, Bool, List, [], ◌∷◌, Option, Some, None}
-use Rattle.blaze_table.specs.Entries.{Entry, at, SameOption}
-use Rattle.blaze_table.specs.Canonical.{IsCanonical, AreKeys}
-use Rattle.blaze_table.specs.Splice.{IsBelow}
+use Rattle.blaze_entries.specs.Entries.{Entry, at, SameOption}
+use Rattle.blaze_entries.specs.Canonical.{IsCanonical, AreKeys}
+use Rattle.blaze_entries.specs.Splice.{IsBelow}
 
 -- no key from a to below b has a value
 abbrev pub IsBare : {V : Type 0} → (ℤ → Option V) → ℤ → ℤ → Type 0

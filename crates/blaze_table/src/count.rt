@@ -1,8 +1,8 @@
 //! The number of keys of a list of entries.
 ghost use Rattle.std.specs.Prelude.{◌≡◌, pos, ◌≤ℤ◌};
-ghost use Rattle.blaze_table.specs.Canonical.{IsCanonical};
-ghost use Rattle.blaze_table.specs.Count.{keys_in};
-ghost use Rattle.blaze_table.specs.Entries.{shown_list};
+ghost use Rattle.blaze_entries.specs.Canonical.{IsCanonical};
+ghost use Rattle.blaze_entries.specs.Count.{keys_in};
+ghost use Rattle.blaze_entries.specs.Entries.{shown_list};
 
 use blaze_entries::Entries;
 use blaze_int::compare::length;

@@ -5,13 +5,13 @@ ghost use Rattle.std.specs.Prelude.{Ok, OnOk, OnErr, IfOk, IsSome, IfSome, IsSom
 ghost use Rattle.blaze_entries.specs.Cloned.{IsRangeCloned, IsManyCloned};
 ghost use Rattle.blaze_entries.specs.Found.{range_in};
 ghost use Rattle.blaze_entries.specs.Starts.{holder_of};
-ghost use Rattle.blaze_table.specs.Canonical.{IsCanonical};
-ghost use Rattle.blaze_table.specs.Cut.{IsAmongOthers, GoesOnAbove};
-ghost use Rattle.blaze_table.specs.Entries.{at};
-ghost use Rattle.blaze_table.specs.Painted.{ClonesAreAlike};
+ghost use Rattle.blaze_entries.specs.Canonical.{IsCanonical};
+ghost use Rattle.blaze_entries.specs.Cut.{IsAmongOthers, GoesOnAbove};
+ghost use Rattle.blaze_entries.specs.Entries.{at};
+ghost use Rattle.blaze_entries.specs.Painted.{ClonesAreAlike};
 ghost use Rattle.blaze_table.specs.Planned.{IsWorked};
-ghost use Rattle.blaze_table.specs.Splice.{IsKeyTaken, IsKeyCut, IsFirstKeyCut, IsLastKeyCut, IsTableCut};
-ghost use Rattle.blaze_table.specs.Table.{IsTable};
+ghost use Rattle.blaze_entries.specs.Splice.{IsKeyTaken, IsKeyCut, IsFirstKeyCut, IsLastKeyCut, IsTableCut};
+ghost use Rattle.blaze_entries.specs.Table.{IsTable};
 ghost use Rattle.blaze_table.specs.Work.{IsCountedCut, IsRefused};
 
 use crate::edit::remove_keys;

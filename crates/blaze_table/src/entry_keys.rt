@@ -1,6 +1,6 @@
 //! The ends of a list's entries are keys.
-ghost use Rattle.blaze_table.specs.Canonical.{AreKeys};
-ghost use Rattle.blaze_table.specs.Entries.{shown_list};
+ghost use Rattle.blaze_entries.specs.Canonical.{AreKeys};
+ghost use Rattle.blaze_entries.specs.Entries.{shown_list};
 
 use blaze_int::Integer;
 

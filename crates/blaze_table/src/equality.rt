@@ -3,8 +3,8 @@ ghost use Rattle.std.specs.Prelude.{◌≡◌, ◌↔◌, IsTrue};
 ghost use Rattle.std.proofs.Common.{rules};
 ghost use Rattle.std.specs.Cmp.Rules.{comparing};
 ghost use Rattle.std.specs.Ordering.{on};
-ghost use Rattle.blaze_table.specs.Entries.{SameContent, shown_entry};
-ghost use Rattle.blaze_table.specs.Equality.{same_entry, same_entries};
+ghost use Rattle.blaze_entries.specs.Entries.{SameContent, shown_entry};
+ghost use Rattle.blaze_entries.specs.Equality.{same_entry, same_entries};
 
 use crate::table::RangeTable;
 use blaze_int::Integer;

@@ -1,7 +1,7 @@
 //! The laws of canonical lists, for every value type with a lawful equality. Each function does nothing: its contract
 //! is the law.
-ghost use Rattle.blaze_table.specs.Laws.{CanonicalIsUnique, CanonicalIsFewest, CanonicalIsShortest};
-ghost use Rattle.blaze_table.specs.Laws.{LengthsAreMapped, PairsAreContent, StructureIsDefinition};
+ghost use Rattle.blaze_entries.specs.Laws.{CanonicalIsUnique, CanonicalIsFewest, CanonicalIsShortest};
+ghost use Rattle.blaze_entries.specs.Laws.{LengthsAreMapped, PairsAreContent, StructureIsDefinition};
 
 use blaze_int::Integer;
 

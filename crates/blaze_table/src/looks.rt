@@ -5,9 +5,9 @@ ghost use Rattle.std.specs.Option.{option_map};
 ghost use Rattle.blaze_entries.specs.Overlap.{covered_keys};
 ghost use Rattle.blaze_entries.specs.Starts.{below, from, start_at};
 ghost use Rattle.blaze_entries.specs.Walked.{RangesAscend, shown_plan, IsSeenIn, IsClonedIf};
-ghost use Rattle.blaze_table.specs.Painted.{ClonesAreAlike};
+ghost use Rattle.blaze_entries.specs.Painted.{ClonesAreAlike};
 ghost use Rattle.blaze_table.specs.Planned.{IsWalkOf, HasEditLookups, GoesOnUnequal};
-ghost use Rattle.blaze_table.specs.Table.{IsTable};
+ghost use Rattle.blaze_entries.specs.Table.{IsTable};
 
 use blaze_entries::{Counted, Plan, RangeEntry, Walk, length_outside, next_or_last};
 use blaze_int::Integer;

@@ -1,7 +1,7 @@
 //! Lookups of entries by a key that they contain.
 ghost use Rattle.std.specs.Prelude.{◌≡◌, option_map};
-ghost use Rattle.blaze_table.specs.Ending.{ending_from};
-ghost use Rattle.blaze_table.specs.Entries.{entry_at, shown_entry};
+ghost use Rattle.blaze_entries.specs.Ending.{ending_from};
+ghost use Rattle.blaze_entries.specs.Entries.{entry_at, shown_entry};
 ghost use Rattle.blaze_table.specs.Filling.{IsOrdered};
 
 use blaze_entries::{Entries, Range};

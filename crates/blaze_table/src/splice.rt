@@ -4,11 +4,11 @@ ghost use Rattle.std.specs.Prelude.{◌≡◌, ◌≤ℤ◌, Ok, IfOk, OnOk, OnE
 ghost use Rattle.blaze_entries.specs.Found.{shown_found};
 ghost use Rattle.blaze_entries.specs.Walked.{shown_plan};
 ghost use Rattle.blaze_table.specs.Work.{IsRefused};
-ghost use Rattle.blaze_table.specs.Entries.{entry};
-ghost use Rattle.blaze_table.specs.Painted.{IsInside};
+ghost use Rattle.blaze_entries.specs.Entries.{entry};
+ghost use Rattle.blaze_entries.specs.Painted.{IsInside};
 ghost use Rattle.blaze_table.specs.Planned.{joined_start, reaches, IsWalkOf, IsWorked};
-ghost use Rattle.blaze_table.specs.Splice.{IsTablePainted};
-ghost use Rattle.blaze_table.specs.Table.{IsTable};
+ghost use Rattle.blaze_entries.specs.Splice.{IsTablePainted};
+ghost use Rattle.blaze_entries.specs.Table.{IsTable};
 
 use crate::edit::{extend, set_entry};
 use blaze_entries::{Counted, Plan, RangeEntry, Walk};

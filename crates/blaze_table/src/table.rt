@@ -2,12 +2,12 @@
 ghost use Rattle.std.specs.Prelude.{◌≡◌, ◌-◌, pos, [], length, slice_get};
 ghost use Rattle.std.specs.Prelude.{IfOk, option_map};
 ghost use Rattle.blaze_entries.specs.Starts.{from};
-ghost use Rattle.blaze_table.specs.Counted.{uncounted};
-ghost use Rattle.blaze_table.specs.Entries.{at, shown_entry, shown_list};
-ghost use Rattle.blaze_table.specs.Entries.{SameEntries};
-ghost use Rattle.blaze_table.specs.Canonical.{IsRangeMap};
-ghost use Rattle.blaze_table.specs.Count.{keys_in, mapped_keys};
-ghost use Rattle.blaze_table.specs.Painted.{ClonesAreAlike};
+ghost use Rattle.blaze_entries.specs.Counted.{uncounted};
+ghost use Rattle.blaze_entries.specs.Entries.{at, shown_entry, shown_list};
+ghost use Rattle.blaze_entries.specs.Entries.{SameEntries};
+ghost use Rattle.blaze_entries.specs.Canonical.{IsRangeMap};
+ghost use Rattle.blaze_entries.specs.Count.{keys_in, mapped_keys};
+ghost use Rattle.blaze_entries.specs.Painted.{ClonesAreAlike};
 
 mod cut;
 mod fill;
@@ -32,8 +32,8 @@ pub struct RangeTable<T: Integer, V: Eq> {
 }
 
 impl<T: Integer, V: Eq> Model for RangeTable<T, V> {
-    ghost use Rattle.blaze_table.specs.Counted.{CountedEntries, counted_code};
-    ghost use Rattle.blaze_table.specs.Table.{IsTable};
+    ghost use Rattle.blaze_entries.specs.Counted.{CountedEntries, counted_code};
+    ghost use Rattle.blaze_entries.specs.Table.{IsTable};
 
     ghost Value = { CountedEntries V };
 

@@ -1,9 +1,9 @@
 //! Streams with other values: joins, results of a closure, a value at every key of the type, and events.
 use crate::calls::{begin, end, show_refused};
 use crate::tables::{Words, table_of};
+use blaze_iters::{OwnedRangeValuesIter, RangeValuesIter};
 use blaze_streams::{
-    JoinKind, OwnedRangeValuesIter, RangeValuesIter, SortedDisjointMap, ValueCarrier, fill,
-    join_of, sweep_of, transform,
+    JoinKind, SortedDisjointMap, ValueCarrier, fill, join_of, sweep_of, transform,
 };
 use std::alloc::AllocError;
 use std::fmt::Debug;

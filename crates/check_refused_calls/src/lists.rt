@@ -1,8 +1,8 @@
 //! Tables and sets built from lists, a clone of a table, and the segments of lists.
 use crate::calls::{begin, end, show_answer, show_refused};
 use crate::tables::{Words, leaf, show_table};
-use blaze_streams::{Segment, canonical_of, segments};
-use blaze_table::{RangeSetBlaze, RangeTable};
+use blaze_streams::{Segment, segments};
+use blaze_table::{RangeSetBlaze, RangeTable, canonical_of};
 use std::alloc::{AllocError, Global};
 
 /// Clones a table.

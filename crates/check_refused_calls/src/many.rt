@@ -1,7 +1,7 @@
 //! Operations between many owned maps, in a `Vec` and in an array. If an allocation fails, the maps are dropped.
 use crate::calls::{begin, end, show_answer};
 use crate::tables::{Words, leaf, table_of};
-use blaze_streams::RangeValuesIter;
+use blaze_iters::RangeValuesIter;
 use range_map_blaze::{IntoRangeMapBlaze, RangeMapBlaze};
 use range_map_multi::MultiwayRangeMapBlaze;
 use std::alloc::{AllocError, Global};

@@ -1,9 +1,10 @@
 //! Streams of the same values: merges of two streams, a stream and a set, and tables and maps built from a stream.
 use crate::calls::{begin, end, show_answer, show_refused};
 use crate::tables::{Words, table_of};
+use blaze_iters::{IntoRangeValuesIter, RangeValuesIter};
 use blaze_streams::{
-    CanonMapIter, IntoRangeValuesIter, RangeValuesIter, complement, intersect_with_ranges,
-    intersection_of, subtract_ranges, symmetric_difference_of, union_of,
+    CanonMapIter, complement, intersect_with_ranges, intersection_of, subtract_ranges,
+    symmetric_difference_of, union_of,
 };
 use blaze_table::RangeSetBlaze;
 use range_map_blaze::{IntoRangeMapBlaze, RangeMapBlaze};

@@ -1,7 +1,7 @@
 -- The entries that share a key with a range, each cut to it, are the entries on the keys of the range; and their lengths are how
 -- many keys of the range have a value.
 use Rattle.range_map_blaze.proofs.Words.{◌≡◌, ℕ, zero, suc, ℤ, pos, negsuc, ◌+ℤ◌, ◌-ℤ◌, ◌≤ℤ◌, ◌<ℤ◌, Bool, List, [], ◌∷◌, refl, ◌∙◌, sym, ap, subst, Option, arith, IsEquivalence, ints, by_lt_z, nat_of-pos, pos_injective, nat_of, up_to, IsCanonical, IsRangeMap, left_with_right, keys_in, mapped_keys, ending_from, overlapping, Entry, entry, at, after, lengths_are_mapped, above_rest, at_in, at_under, at_over, one_if, canonical, one_per_run, above_after, canonical_after, IsWithin, one_range, within, cut_each, cut_to}
-use Rattle.blaze_table.specs.Count.{mapped}
+use Rattle.blaze_entries.specs.Count.{mapped}
 use Rattle.range_map_blaze.proofs.GapsWithin.{up_to_takes, up_to_skips, up_to_none, keys_between}
 use Rattle.range_map_blaze.proofs.Paints.Following.{IsOnward, whole_first, within_next, within_over, onward_next, content_within, within_chosen}
 

@@ -1,6 +1,6 @@
 -- The keys of joins of maps, and of maps with what a closure answers at their values.
 use Rattle.range_map_blaze.proofs.Words.{nat_of, ◌≡◌, ℕ, zero, suc, ◌+◌, ℤ, pos, ◌+ℤ◌, ◌-ℤ◌, ◌<ℤ◌, Bool, cond, List, [], ◌∷◌, Option, None, refl, ◌∙◌, sym, ap, subst, arith, is_some, IsEquivalence, Mut, ints, by_lt_z, length-map, same_trans, Entry, at, SameOption, AreKeys, canonical_is_unique, at_under, at_over, back, entries_with_results, answers_keep_keys, left_join_has_left_keys, full_join_is_inner, AnswersAreOnItsKeys, FullJoinIsInnerJoin, HaveSameKeys, IsUniversalMap, LeftJoinIsOnTheLeftKeys}
-use Rattle.blaze_table.specs.Count.{mapped}
+use Rattle.blaze_entries.specs.Count.{mapped}
 
 same_mapped : {V W : Type 0} (c : ℤ → Option V) (d : ℤ → Option W) → ((k : ℤ) → is_some (d k) ≡ is_some (c k)) → (a : ℤ) (n : ℕ) → mapped d a n ≡ mapped c a n
 unfolding mapped

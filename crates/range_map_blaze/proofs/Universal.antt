@@ -1,6 +1,6 @@
 -- When every key has a value.
 use Rattle.range_map_blaze.proofs.Words.{nat_of, ◌≡◌, ℕ, zero, suc, ◌≤◌, ℤ, pos, ◌+ℤ◌, ◌-ℤ◌, ◌≤ℤ◌, ◌<ℤ◌, Bool, true, false, not, Option, Some, None, refl, ◌∙◌, sym, ap, subst, arith, IsSome, IsTrue, ints, by_lt_z, mapped_keys, one_if}
-use Rattle.blaze_table.specs.Count.{mapped}
+use Rattle.blaze_entries.specs.Count.{mapped}
 
 module _ {V : Type 0} (content : ℤ → Option V) where
   one_of : (o : Option V) → one_if o ≡ 1 → IsSome o

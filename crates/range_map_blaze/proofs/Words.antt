@@ -58,49 +58,49 @@ pub use Rattle.blaze_streams.specs.Fills.{IsFilledWithNone, filled_entries, none
 pub use Rattle.blaze_streams.specs.Gaps.{gap_before, gaps, rank_or_end}
 pub use Rattle.blaze_streams.specs.Joins.{is_joined}
 pub use Rattle.blaze_streams.specs.Ranges.{shown_range}
-pub use Rattle.blaze_table.proofs.Canonical.Clones.{IsCopied}
-pub use Rattle.blaze_table.proofs.Canonical.Counted.{before_none, are_keys_as, are_keys_before, are_keys_after, some_keys, one_fits, one_more, keys_among, are_keys_glue}
-pub use Rattle.blaze_table.proofs.Canonical.Fewest.{fewest}
-pub use Rattle.blaze_table.proofs.Canonical.ListLaws.{canonical_is_unique, lengths_are_mapped}
-pub use Rattle.blaze_table.proofs.Canonical.Lookup.{at_in, IsAbove, above_rest, at_under, at_over, by_place, entry_in, entry_under, entry_over, IsAbove-from_apart, above_by, holds_ends, at_append, above_low, at_before, holds_under, holds_over, holds_in}
-pub use Rattle.blaze_table.proofs.Canonical.Mapped.{one_if}
-pub use Rattle.blaze_table.proofs.Canonical.RangeMaps.{starts_ascend}
-pub use Rattle.blaze_table.proofs.Canonical.Runs.{canonical, one_per_run, start_along, in_order}
-pub use Rattle.blaze_table.proofs.Canonical.SameLists.{content_decides}
-pub use Rattle.blaze_table.proofs.Canonical.Unique.{back, unique, breaks}
+pub use Rattle.blaze_entries.proofs.Canonical.Clones.{IsCopied}
+pub use Rattle.blaze_entries.proofs.Canonical.Counted.{before_none, are_keys_as, are_keys_before, are_keys_after, some_keys, one_fits, one_more, keys_among, are_keys_glue}
+pub use Rattle.blaze_entries.proofs.Canonical.Fewest.{fewest}
+pub use Rattle.blaze_entries.proofs.Canonical.ListLaws.{canonical_is_unique, lengths_are_mapped}
+pub use Rattle.blaze_entries.proofs.Canonical.Lookup.{at_in, IsAbove, above_rest, at_under, at_over, by_place, entry_in, entry_under, entry_over, IsAbove-from_apart, above_by, holds_ends, at_append, above_low, at_before, holds_under, holds_over, holds_in}
+pub use Rattle.blaze_entries.proofs.Canonical.Mapped.{one_if}
+pub use Rattle.blaze_entries.proofs.Canonical.RangeMaps.{starts_ascend}
+pub use Rattle.blaze_entries.proofs.Canonical.Runs.{canonical, one_per_run, start_along, in_order}
+pub use Rattle.blaze_entries.proofs.Canonical.SameLists.{content_decides}
+pub use Rattle.blaze_entries.proofs.Canonical.Unique.{back, unique, breaks}
 pub use Rattle.blaze_table.proofs.Cuts.Cutting.{after_all, after_whole}
 pub use Rattle.blaze_table.proofs.Cuts.Splits.{canonical_part, ends_below}
 pub use Rattle.blaze_table.proofs.Fills.Joints.{run_start_as}
 pub use Rattle.blaze_table.proofs.Fills.KeptEntries.{all_kept, are_kept, kept_further, value_in}
-pub use Rattle.blaze_table.proofs.Neighbours.Ending.{ending_takes, ending_skips, ending_all}
+pub use Rattle.blaze_entries.proofs.Lists.Ending.{ending_takes, ending_skips, ending_all}
 pub use Rattle.blaze_table.proofs.Neighbours.NextEntries.{holding_none, holding_some, holding_not, below_none_is, below_here}
 pub use Rattle.blaze_table.proofs.Paints.Inside.{inside_at}
-pub use Rattle.blaze_table.proofs.Paints.Kept.{over_in}
-pub use Rattle.blaze_table.proofs.Paints.Painted.{content_as, length_as, is_painted, paint_itself, canonical_as}
-pub use Rattle.blaze_table.proofs.Paints.Splices.{at-after_over, by_before, canonical_after, canonical_before, above_after, after_skips, after_keeps, before_keeps, before_cuts, by_after, at-before_over, at-before_under, at_glue, below_glue, below_more, canonical_glue, after_cuts}
+pub use Rattle.blaze_entries.proofs.Paints.Kept.{over_in}
+pub use Rattle.blaze_entries.proofs.Paints.Painted.{content_as, length_as, is_painted, paint_itself, canonical_as}
+pub use Rattle.blaze_entries.proofs.Paints.Splices.{at-after_over, by_before, canonical_after, canonical_before, above_after, after_skips, after_keeps, before_keeps, before_cuts, by_after, at-before_over, at-before_under, at_glue, below_glue, below_more, canonical_glue, after_cuts}
 pub use Rattle.blaze_table.proofs.Pairs.Lasts.{painted_one}
 pub use Rattle.blaze_table.proofs.Pairs.PairLaws.{pairs_are_content}
 pub use Rattle.blaze_table.proofs.Pairs.PairLists.{nat_of-next, pairs_append}
 pub use Rattle.blaze_table.proofs.Pairs.Texts.{split_some}
-pub use Rattle.blaze_table.proofs.Pairs.UnitLaws.{unit_laws}
+pub use Rattle.blaze_entries.proofs.Lists.UnitLaws.{unit_laws}
 pub use Rattle.blaze_table.proofs.Sweeping.Sweeps.{at_past}
 pub use Rattle.blaze_table.proofs.Walks.Worked.{counted_none, counted_then}
-pub use Rattle.blaze_table.specs.Canonical.{IsCanonical, AreKeys, IsRangeMap, IsApart, IsRunStart, HasEnd, IsDisjoint, IsAscending}
+pub use Rattle.blaze_entries.specs.Canonical.{IsCanonical, AreKeys, IsRangeMap, IsApart, IsRunStart, HasEnd, IsDisjoint, IsAscending}
 pub use Rattle.blaze_table.specs.CanonicalOf.{keyed_count, IsCanonicalOf}
-pub use Rattle.blaze_table.specs.Chosen.{left_alone, left_with_right, IsChosen, right_first}
-pub use Rattle.blaze_table.specs.Complement.{value_if_none, IsComplement}
-pub use Rattle.blaze_table.specs.Count.{mapped_keys, keys_in}
-pub use Rattle.blaze_table.specs.Counted.{CountedEntries, uncounted}
-pub use Rattle.blaze_table.specs.Cut.{cut_range_at, IsRangeCut, IsAmongOthers, IsLastKeyRemoved, IsFirstKeyRemoved}
-pub use Rattle.blaze_table.specs.Ending.{ending_from, overlapping}
-pub use Rattle.blaze_table.specs.Entries.{Entry, at, entry, SameOption, holds, SameEntries, entry_at, shown_entry, shown_list, SameContent, shown_range_entry}
-pub use Rattle.blaze_table.specs.Equality.{same_entries}
+pub use Rattle.blaze_entries.specs.Chosen.{left_alone, left_with_right, IsChosen, right_first}
+pub use Rattle.blaze_entries.specs.Complement.{value_if_none, IsComplement}
+pub use Rattle.blaze_entries.specs.Count.{mapped_keys, keys_in}
+pub use Rattle.blaze_entries.specs.Counted.{CountedEntries, uncounted}
+pub use Rattle.blaze_entries.specs.Cut.{cut_range_at, IsRangeCut, IsAmongOthers, IsLastKeyRemoved, IsFirstKeyRemoved}
+pub use Rattle.blaze_entries.specs.Ending.{ending_from, overlapping}
+pub use Rattle.blaze_entries.specs.Entries.{Entry, at, entry, SameOption, holds, SameEntries, entry_at, shown_entry, shown_list, SameContent, shown_range_entry}
+pub use Rattle.blaze_entries.specs.Equality.{same_entries}
 pub use Rattle.blaze_table.specs.Filled.{filled_content, IsFilled}
 pub use Rattle.blaze_table.specs.Gap.{IsClearFrom, IsGap}
-pub use Rattle.blaze_table.specs.Painted.{last_at, painted_in_order, IsInside, IsPainted, painted_content, LeavesAlone}
-pub use Rattle.blaze_table.specs.Pairs.{pair_list, pairs_from, value_at}
-pub use Rattle.blaze_table.specs.RangeSets.{unit_eq, IsRangeSet, shown_bare_range, shown_bare_ranges}
-pub use Rattle.blaze_table.specs.Splice.{after, before, paint, glue, IsBelow}
+pub use Rattle.blaze_entries.specs.Painted.{last_at, painted_in_order, IsInside, IsPainted, painted_content, LeavesAlone}
+pub use Rattle.blaze_entries.specs.Pairs.{pair_list, pairs_from, value_at}
+pub use Rattle.blaze_entries.specs.RangeSets.{unit_eq, IsRangeSet, shown_bare_range, shown_bare_ranges}
+pub use Rattle.blaze_entries.specs.Splice.{after, before, paint, glue, IsBelow}
 pub use Rattle.blaze_table.specs.Work.{IsCountedPaint, IsCounted}
 pub use Rattle.range_map_blaze.specs.CutOut.{IsAlikeOff}
 pub use Rattle.range_map_blaze.specs.Edits.{AreEdits, AreEndsOf, AreEntriesAsked, ArePiecesAsked, IsPieceAsked, AreAside, AreEdited, IsEdited, IsPartEdited}

@@ -1,7 +1,7 @@
 -- A map out of which some ranges are cut.
 use Rattle.std.specs.Prelude.{ℤ, Bool, List}
-use Rattle.blaze_table.specs.Entries.{Entry, at, SameOption}
-use Rattle.blaze_table.specs.Chosen.{left_alone}
+use Rattle.blaze_entries.specs.Entries.{Entry, at, SameOption}
+use Rattle.blaze_entries.specs.Chosen.{left_alone}
 
 -- A list that equals another outside of the ranges' keys, so that cutting all the ranges out of either gives the same.
 abbrev pub IsAlikeOff : {A V : Type 0} → (V → V → Bool) → List (Entry A) → List (Entry V) → List (Entry V) → Type 0

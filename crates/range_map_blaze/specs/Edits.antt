@@ -6,9 +6,9 @@ use Rattle.std.specs.Option.{option_eq}
 use Rattle.std.specs.Prelude.{◌≡◌, ℤ, pos, ◌+ℤ◌, if◌then◌else◌, Bool, List, [], ◌∷◌, ◌++◌, Option, Result, Ok}
 use Rattle.blaze_streams.specs.Answers.{AnswersAtValue}
 use Rattle.blaze_streams.specs.Fills.{none_before, IsFilledWithNone}
-use Rattle.blaze_table.specs.Canonical.{IsRangeMap, HasEnd}
-use Rattle.blaze_table.specs.Entries.{Entry, entry, at, holds, SameEntries, SameOption}
-use Rattle.blaze_table.specs.Splice.{glue}
+use Rattle.blaze_entries.specs.Canonical.{IsRangeMap, HasEnd}
+use Rattle.blaze_entries.specs.Entries.{Entry, entry, at, holds, SameEntries, SameOption}
+use Rattle.blaze_entries.specs.Splice.{glue}
 use Rattle.range_map_blaze.specs.Updated.{updated, AreAnswersAtPieces, AreOthersKept, IsAside}
 
 -- the result at a piece appended to a list of edits, joined with the last where the two touch and are equal; a result that equals the old

@@ -1,8 +1,8 @@
 -- The entries of a map cut to the keys of a range, and how many keys of a range have a value.
 use Rattle.std.specs.Prelude.{◌≡◌, ◌⊎◌, ℕ, ℤ, ◌≤ℤ◌, ◌<ℤ◌, Bool, List, [], None}
-use Rattle.blaze_table.specs.Canonical.{IsRangeMap}
-use Rattle.blaze_table.specs.Count.{mapped_keys}
-use Rattle.blaze_table.specs.Entries.{Entry, at}
+use Rattle.blaze_entries.specs.Canonical.{IsRangeMap}
+use Rattle.blaze_entries.specs.Count.{mapped_keys}
+use Rattle.blaze_entries.specs.Entries.{Entry, at}
 
 -- The new list is the old one cut to the keys from l up to h. It is a range map. At each key from l up to h it has exactly the
 -- value of the old one, or none. At each key below l, and at each key above h, it has none.

@@ -1,9 +1,9 @@
 -- Pairs that are painted in order: each pair is a range with a value, seen as an entry, and the later pair wins.
 use Rattle.std.specs.List.{Contains}
 use Rattle.std.specs.Prelude.{◌≡◌, ℤ, ◌<ℤ◌, ◌+◌, ◌-◌, ◌*◌, ◌≤◌, ◌⊎◌, length, Bool, List, [], ◌∷◌, ◌++◌}
-use Rattle.blaze_table.specs.Entries.{Entry, at, SameOption}
-use Rattle.blaze_table.specs.Canonical.{IsRangeMap}
-use Rattle.blaze_table.specs.Painted.{IsInside, IsPainted, LeavesAlone, painted_in_order}
+use Rattle.blaze_entries.specs.Entries.{Entry, at, SameOption}
+use Rattle.blaze_entries.specs.Canonical.{IsRangeMap}
+use Rattle.blaze_entries.specs.Painted.{IsInside, IsPainted, LeavesAlone, painted_in_order}
 
 -- a key and an item that stands for its value, as the entry of that key alone
 abbrev pub shown_point : {T R V : Type 0} → (T → ℤ) → (R → V) → T × R → Entry V

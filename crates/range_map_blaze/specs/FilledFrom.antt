@@ -2,8 +2,8 @@
 -- that have none.
 use Rattle.std.specs.Option.{option_or}
 use Rattle.std.specs.Prelude.{◌≡◌, ℤ, Bool, List, ◌++◌}
-use Rattle.blaze_table.specs.Entries.{Entry, at, SameOption}
-use Rattle.blaze_table.specs.Canonical.{IsRangeMap}
+use Rattle.blaze_entries.specs.Entries.{Entry, at, SameOption}
+use Rattle.blaze_entries.specs.Canonical.{IsRangeMap}
 use Rattle.blaze_table.specs.Filled.{AreKept}
 
 -- a range map that has at each key the value of the old one, and where that has none, the value of the first of the entries with

@@ -1,8 +1,8 @@
 -- A map with its gaps filled: every key of the type has a value, `Some` of its old one or `None`.
 use Rattle.std.specs.Prelude.{ℤ, ◌≤ℤ◌, Bool, List, Option, Some}
 use Rattle.std.specs.Option.{option_eq}
-use Rattle.blaze_table.specs.Entries.{Entry, at, SameOption}
-use Rattle.blaze_table.specs.Canonical.{IsRangeMap}
+use Rattle.blaze_entries.specs.Entries.{Entry, at, SameOption}
+use Rattle.blaze_entries.specs.Canonical.{IsRangeMap}
 
 -- a range map that has a value at every key from low to high: `Some` of a value equal to that of the entries, and
 -- `None` where they have none

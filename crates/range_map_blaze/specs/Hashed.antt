@@ -3,8 +3,8 @@ use Rattle.std.specs.Prelude.{◌≡◌, ℕ, ℤ, Bool, true, List, ◌++◌}
 use Rattle.std.specs.Cmp.{signed_Decides}
 use Rattle.std.specs.Hash.{same_Alike, on_Alike, and-Alike, items_Alike}
 use Rattle.std.specs.Hash as fed
-use Rattle.blaze_table.specs.Entries.{Entry}
-use Rattle.blaze_table.specs.Equality.{same_entries}
+use Rattle.blaze_entries.specs.Entries.{Entry}
+use Rattle.blaze_entries.specs.Equality.{same_entries}
 
 module _ {V : Type 0} (key : ℤ → List (List ℕ)) (value : V → List (List ℕ)) where
   -- an entry's two ends, and then its value

@@ -1,8 +1,8 @@
 -- The keys of a range removed from a map: the map without them, and the map of them.
 use Rattle.std.specs.Prelude.{◌≡◌, ◌⊎◌, ℤ, Bool, List, []}
-use Rattle.blaze_table.specs.Chosen.{left_with_right, IsChosen}
-use Rattle.blaze_table.specs.Cut.{IsRangeCut}
-use Rattle.blaze_table.specs.Entries.{Entry}
+use Rattle.blaze_entries.specs.Chosen.{left_with_right, IsChosen}
+use Rattle.blaze_entries.specs.Cut.{IsRangeCut}
+use Rattle.blaze_entries.specs.Entries.{Entry}
 use Rattle.range_map_blaze.specs.OneRange.{one_range}
 
 -- the keys from l up to h are removed from a range map: the new map has the other keys, the returned one has these, each with a

@@ -3,9 +3,9 @@
 use Rattle.std.specs.Prelude.{◌≡◌, ℤ, ◌≤ℤ◌, Bool, List, Option, IsSome}
 use Rattle.std.specs.Option.{is_some}
 use Rattle.std.specs.Fn.{Mut}
-use Rattle.blaze_table.specs.Entries.{Entry, at, SameEntries}
-use Rattle.blaze_table.specs.Canonical.{IsRangeMap}
-use Rattle.blaze_table.specs.Count.{mapped_keys}
+use Rattle.blaze_entries.specs.Entries.{Entry, at, SameEntries}
+use Rattle.blaze_entries.specs.Canonical.{IsRangeMap}
+use Rattle.blaze_entries.specs.Count.{mapped_keys}
 use Rattle.blaze_streams.specs.declared.segmenting.joins.JoinKind.TheVariants.{Inner, Left, Full}
 use Rattle.blaze_streams.specs.Answers.{IsTransformed}
 use Rattle.blaze_streams.specs.JoinAnswers.{IsJoined}

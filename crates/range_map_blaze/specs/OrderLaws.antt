@@ -7,9 +7,9 @@ use Rattle.std.specs.declared.cmp.Ordering.TheVariants.{Less, Equal, Greater}
 use Rattle.std.specs.Ordering.{int_cmp, int_eq, is_eq, ordering_then}
 use Rattle.std.specs.Cmp.{IsTotalOrder, both_tied, both_ways, Equal-is, first_so, second_so, int_cmp_total, on_total, signed_Decides, then_total, tied_itself}
 use Rattle.std.specs.Cmp.Lexicographic.{slice_cmp, lists_ties, lists_total}
-use Rattle.blaze_table.specs.Entries.{Entry}
-use Rattle.blaze_table.specs.Equality.{same_entry, same_entries}
-use Rattle.blaze_table.specs.Pairs.{pairs_from}
+use Rattle.blaze_entries.specs.Entries.{Entry}
+use Rattle.blaze_entries.specs.Equality.{same_entry, same_entries}
+use Rattle.blaze_entries.specs.Pairs.{pairs_from}
 use Rattle.range_map_blaze.specs.Order.{ranked_pairs, pair_cmp, pairs_cmp, entry_cmp, map_cmp}
 
 second_tied : (a b : Ordering) → is_eq (ordering_then a b) ≡ true → is_eq b ≡ true

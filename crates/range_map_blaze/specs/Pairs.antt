@@ -1,7 +1,7 @@
 -- The least and the greatest key of a content, with their values.
 use Rattle.std.specs.Prelude.{◌≡◌, ◌<ℤ◌, ℤ, Bool, List, Option, Some, None}
-use Rattle.blaze_table.specs.Entries.{Entry, at, SameOption}
-use Rattle.blaze_table.specs.Cut.{IsKeyRemoved}
+use Rattle.blaze_entries.specs.Entries.{Entry, at, SameOption}
+use Rattle.blaze_entries.specs.Cut.{IsKeyRemoved}
 
 -- the key has the value, and no key below it has one
 pub record IsFirstPair {V : Type 0} (content : ℤ → Option V) (k : ℤ) (value : V) : Type 0 where

@@ -1,7 +1,7 @@
 -- The printed text of a range map.
 use Rattle.std.specs.Prelude.{ℕ, ℤ, List, [], ◌∷◌, Option, Some, codes}
 use Rattle.std.specs.Fmt.{◌++?◌}
-use Rattle.blaze_table.specs.Entries.{Entry}
+use Rattle.blaze_entries.specs.Entries.{Entry}
 
 module _ {K V : Type 0} (key_text : K → Option (List ℕ)) (of_rank : ℤ → K) (value_text : V → Option (List ℕ)) where
   -- `(1..=2, "a")`, where the texts of keys and value are known

@@ -1,6 +1,6 @@
 -- Relations between the keys of two lists of entries, whatever the values.
 use Rattle.std.specs.Prelude.{◌≡◌, ◌⊎◌, ℤ, List, None, IsSome}
-use Rattle.blaze_table.specs.Entries.{Entry, at}
+use Rattle.blaze_entries.specs.Entries.{Entry, at}
 
 -- no key has a value in both lists: at each key at least one of the two has none
 abbrev pub ShareNoKey : {A B : Type 0} → List (Entry A) → List (Entry B) → Type 0

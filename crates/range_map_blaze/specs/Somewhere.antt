@@ -2,13 +2,13 @@
 use Rattle.std.specs.Prelude.{◌≡◌, ◌⊎◌, ℤ, Bool, List, [], Option, Result}
 use Rattle.std.specs.declared.alloc.AllocError.{AllocError}
 use Rattle.std.specs.Fn.{Mut}
-use Rattle.blaze_table.specs.Entries.{Entry, entry}
-use Rattle.blaze_table.specs.Painted.{IsPainted}
+use Rattle.blaze_entries.specs.Entries.{Entry, entry}
+use Rattle.blaze_entries.specs.Painted.{IsPainted}
 use Rattle.blaze_table.specs.Filled.{IsFilled}
-use Rattle.blaze_table.specs.Chosen.{left_with_right, left_alone, IsChosen}
-use Rattle.blaze_table.specs.Cut.{IsRangeCut}
-use Rattle.blaze_table.specs.Ending.{overlapping}
-use Rattle.blaze_table.specs.RangeSets.{unit_eq}
+use Rattle.blaze_entries.specs.Chosen.{left_with_right, left_alone, IsChosen}
+use Rattle.blaze_entries.specs.Cut.{IsRangeCut}
+use Rattle.blaze_entries.specs.Ending.{overlapping}
+use Rattle.blaze_entries.specs.RangeSets.{unit_eq}
 use Rattle.range_map_blaze.specs.OneRange.{one_range}
 use Rattle.range_map_blaze.specs.Updated.{IsUpdated, IsPartUpdated}
 

@@ -1,7 +1,7 @@
 -- The law of closures that may fail.
 use Rattle.std.specs.Prelude.{ℤ, Bool, List, Result, Ok}
 use Rattle.std.specs.Fn.{Mut, Called}
-use Rattle.blaze_table.specs.Entries.{Entry}
+use Rattle.blaze_entries.specs.Entries.{Entry}
 use Rattle.blaze_streams.specs.Answers.{IsTransformed}
 use Rattle.blaze_streams.specs.Fallible.{ok_calls}
 

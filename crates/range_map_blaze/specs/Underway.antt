@@ -1,9 +1,9 @@
 -- Pairs joined before they are painted: the words of this crate's own functions. No public clause names them.
 use Rattle.std.specs.Prelude.{◌≡◌, ℤ, pos, ◌+ℤ◌, ◌≤ℤ◌, ◌≤◌, int_le, int_lt, length, Bool, ◌&&◌, if◌then◌else◌, List, ◌++◌, Option, IfSome}
 use Rattle.std.specs.Option.{option_to_list}
-use Rattle.blaze_table.specs.Entries.{Entry, entry, SameOption}
-use Rattle.blaze_table.specs.Canonical.{IsCanonical}
-use Rattle.blaze_table.specs.Painted.{last_at}
+use Rattle.blaze_entries.specs.Entries.{Entry, entry, SameOption}
+use Rattle.blaze_entries.specs.Canonical.{IsCanonical}
+use Rattle.blaze_entries.specs.Painted.{last_at}
 use Rattle.range_map_blaze.specs.Extended.{AreInside, AreLeftAlone, IsExtended}
 
 -- the ranges touch or overlap, and the values are equal

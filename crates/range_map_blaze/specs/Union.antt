@@ -1,7 +1,7 @@
 -- A union: the right map over the left.
 use Rattle.std.specs.Prelude.{ℤ, ◌+◌, ◌*◌, ◌≤◌, length, Bool, List}
-use Rattle.blaze_table.specs.Entries.{Entry}
-use Rattle.blaze_table.specs.Chosen.{right_first, IsChosen}
+use Rattle.blaze_entries.specs.Entries.{Entry}
+use Rattle.blaze_entries.specs.Chosen.{right_first, IsChosen}
 
 -- a range map that has the value of the right list where it has one, and otherwise that of the left; each entry of the right list
 -- adds two entries at most

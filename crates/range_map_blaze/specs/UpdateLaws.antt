@@ -4,10 +4,10 @@ use Rattle.std.specs.declared.alloc.AllocError.{AllocError}
 use Rattle.std.specs.Fn.{Mut}
 use Rattle.std.specs.Option.{option_eq, option_or}
 use Rattle.std.specs.Prelude.{ℤ, int_le, ◌&&◌, if◌then◌else◌, Bool, List, map, Option, Some, None, Result}
-use Rattle.blaze_table.specs.Cut.{IsRangeCut}
-use Rattle.blaze_table.specs.Entries.{Entry, entry, at, SameEntries, SameOption}
+use Rattle.blaze_entries.specs.Cut.{IsRangeCut}
+use Rattle.blaze_entries.specs.Entries.{Entry, entry, at, SameEntries, SameOption}
 use Rattle.blaze_table.specs.Filled.{IsFilled}
-use Rattle.blaze_table.specs.Painted.{IsPainted}
+use Rattle.blaze_entries.specs.Painted.{IsPainted}
 use Rattle.range_map_blaze.specs.Updated.{IsUpdated, IsPartUpdated}
 
 -- the content with the results of a plain function on the keys from l to h

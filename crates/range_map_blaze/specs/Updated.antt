@@ -6,8 +6,8 @@ use Rattle.std.specs.Option.{option_eq}
 use Rattle.std.specs.Prelude.{◌≡◌, ◌⊎◌, ℤ, pos, ◌+ℤ◌, ◌<ℤ◌, int_le, if◌then◌else◌, Bool, List, map, Option, Some, None, Result, Ok}
 use Rattle.blaze_streams.specs.Answers.{values, entries_with_results, AnswersInTurn, IsCallableAtEachValue}
 use Rattle.blaze_streams.specs.Fills.{IsFilledWithNone}
-use Rattle.blaze_table.specs.Canonical.{IsRangeMap, HasEnd}
-use Rattle.blaze_table.specs.Entries.{Entry, at, SameEntries, SameOption}
+use Rattle.blaze_entries.specs.Canonical.{IsRangeMap, HasEnd}
+use Rattle.blaze_entries.specs.Entries.{Entry, at, SameEntries, SameOption}
 
 -- the value of a key after a result, if there is one, and otherwise its old value
 abbrev pub answer_or : {V : Type 0} → Option (Option V) → Option V → Option V

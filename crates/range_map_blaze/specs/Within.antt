@@ -2,8 +2,8 @@
 use Rattle.std.specs.Prelude.{◌≡◌, ℤ, pos, ◌+ℤ◌, ◌-ℤ◌, ◌≤ℤ◌, ◌<ℤ◌, int_lt, if◌then◌else◌, List, [], ◌∷◌, ◌++◌, map, Option, Some, None}
 use Rattle.std.specs.Int.{int_max, int_min}
 use Rattle.blaze_streams.specs.Gaps.{gap_before}
-use Rattle.blaze_table.specs.Entries.{Entry, entry}
-use Rattle.blaze_table.specs.Splice.{before, after}
+use Rattle.blaze_entries.specs.Entries.{Entry, entry}
+use Rattle.blaze_entries.specs.Splice.{before, after}
 
 -- the entries cut to the keys from l up to h
 abbrev pub within : {V : Type 0} → ℤ → ℤ → List (Entry V) → List (Entry V)

@@ -2,7 +2,7 @@
 ghost use Rattle.std.specs.Iterator.{ExtendsWithItems, IsFinite};
 ghost use Rattle.std.specs.Prelude.{map, ◌≡◌, [], Ok, OnOk, OnErr};
 ghost use Rattle.blaze_streams.specs.Ranges.{shown_range};
-ghost use Rattle.blaze_table.specs.Painted.{ClonesAreAlike};
+ghost use Rattle.blaze_entries.specs.Painted.{ClonesAreAlike};
 ghost use Rattle.blaze_table.specs.Work.{IsCounted};
 ghost use Rattle.range_map_blaze.specs.Extended.{shown_point, ArePaintedInTurn, IsExtended, IsPairPainted};
 ghost use Rattle.range_map_blaze.specs.Extended.{IsPartPaintedInTurn};
@@ -10,7 +10,8 @@ ghost use Rattle.range_map_blaze.specs.Extended.{IsPartPaintedInTurn};
 use crate::map::RangeMapBlaze;
 use crate::pairs::Pair;
 use blaze_int::Integer;
-use blaze_streams::{OwnedRangeValuesIter, SortedDisjointMap, ValueCarrier};
+use blaze_iters::OwnedRangeValuesIter;
+use blaze_streams::{SortedDisjointMap, ValueCarrier};
 use blaze_table::RangeEntry;
 use std::alloc::AllocError;
 use std::ops::RangeInclusive;

@@ -1,8 +1,8 @@
 //! The gaps of a map, filled with the entries of another map or of a stream.
 ghost use Rattle.std.specs.Prelude.{◌≡◌, [], Ok, OnOk, OnErr, ◌≤ℤ◌};
-ghost use Rattle.blaze_table.specs.Entries.{entry};
+ghost use Rattle.blaze_entries.specs.Entries.{entry};
 ghost use Rattle.blaze_table.specs.Filled.{IsFilled};
-ghost use Rattle.blaze_table.specs.Painted.{ClonesAreAlike};
+ghost use Rattle.blaze_entries.specs.Painted.{ClonesAreAlike};
 ghost use Rattle.blaze_table.specs.Work.{IsCounted};
 ghost use Rattle.range_map_blaze.specs.FilledFrom.{IsFilledFrom, IsPartlyFilledFrom};
 

@@ -1,8 +1,8 @@
 //! Maps made of sorted streams and lists of disjoint ranges.
 ghost use Rattle.std.specs.Prelude.{◌≡◌, IfOk};
-ghost use Rattle.blaze_table.specs.Canonical.{IsRangeMap};
-ghost use Rattle.blaze_table.specs.Counted.{uncounted};
-ghost use Rattle.blaze_table.specs.Entries.{SameEntries, shown_list};
+ghost use Rattle.blaze_entries.specs.Canonical.{IsRangeMap};
+ghost use Rattle.blaze_entries.specs.Counted.{uncounted};
+ghost use Rattle.blaze_entries.specs.Entries.{SameEntries, shown_list};
 ghost use Rattle.range_map_blaze.specs.Made.{IsMade};
 
 use crate::map::RangeMapBlaze;

@@ -3,11 +3,11 @@ ghost use Rattle.std.specs.Iterator.{item_count};
 ghost use Rattle.std.specs.Prelude.{◌≤ℤ◌, ◌+ℤ◌, ◌-ℤ◌, ℤ, pos, IsSome, IfOk};
 ghost use Rattle.blaze_int.specs.Bounds.{start_rank, end_rank};
 ghost use Rattle.blaze_streams.specs.Fills.{IsFilledWithNone};
-ghost use Rattle.blaze_table.specs.Chosen.{left_alone, IsChosen};
-ghost use Rattle.blaze_table.specs.Entries.{at};
-ghost use Rattle.blaze_table.specs.Painted.{ClonesAreAlike};
-ghost use Rattle.blaze_table.specs.RangeSets.{shown_bare_range, unit_eq};
-ghost use Rattle.blaze_table.specs.Whole.{YieldsWholeFirst, YieldsWholeLast};
+ghost use Rattle.blaze_entries.specs.Chosen.{left_alone, IsChosen};
+ghost use Rattle.blaze_entries.specs.Entries.{at};
+ghost use Rattle.blaze_entries.specs.Painted.{ClonesAreAlike};
+ghost use Rattle.blaze_entries.specs.RangeSets.{shown_bare_range, unit_eq};
+ghost use Rattle.blaze_entries.specs.Whole.{YieldsWholeFirst, YieldsWholeLast};
 ghost use Rattle.range_map_blaze.specs.GapsFilled.{AreGapsFilled};
 ghost use Rattle.range_map_blaze.specs.Made.{IsMade};
 ghost use Rattle.range_map_blaze.specs.OneRange.{one_range};
@@ -18,7 +18,8 @@ use crate::map::RangeMapBlaze;
 use crate::overlapping::{Overlapping, entries_on, no_entries};
 use blaze_int::compare::is_below;
 use blaze_int::{Integer, bounds_of};
-use blaze_streams::{CanonMapIter, RangeValuesIter};
+use blaze_iters::RangeValuesIter;
+use blaze_streams::CanonMapIter;
 use blaze_table::RangeTable;
 use std::alloc::{AllocError, Global};
 use std::iter::FusedIterator;
@@ -37,8 +38,8 @@ pub struct Gaps<'a, T: Integer, V: Eq> {
 impl<'a, T: Integer, V: Eq> Model for Gaps<'a, T, V> {
     ghost use Rattle.std.specs.Prelude.{List, IfSome};
     ghost use Rattle.std.specs.Coded.{coded_list};
-    ghost use Rattle.blaze_table.specs.Entries.{Entry};
-    ghost use Rattle.blaze_table.specs.RangeSets.{bare_code};
+    ghost use Rattle.blaze_entries.specs.Entries.{Entry};
+    ghost use Rattle.blaze_entries.specs.RangeSets.{bare_code};
     ghost use Rattle.range_map_blaze.specs.Within.{gaps_left, IsGapWalk};
 
     ghost Value = { List (Entry (Unit {0})) };

@@ -1,15 +1,14 @@
 //! Iterators over keys, values, ranges of keys and entries.
 ghost use Rattle.std.specs.Prelude.{◌≡◌, map, IfOk};
 ghost use Rattle.blaze_iters.specs.Left.{unopened, pairs_left, keys_left, values_left};
-ghost use Rattle.blaze_streams.specs.KeyRanges.{AreKeyRanges};
-ghost use Rattle.blaze_table.specs.Pairs.{pair_list};
+ghost use Rattle.blaze_iters.specs.KeyRanges.{AreKeyRanges};
+ghost use Rattle.blaze_entries.specs.Pairs.{pair_list};
 
 use crate::map::RangeMapBlaze;
 use blaze_int::Integer;
-use blaze_iters::{IntoIterMap, IntoKeys, IntoValues, IterMap, Keys, Values};
-use blaze_streams::{
-    IntoRangeValuesIter, MapIntoRangesIter, MapRangesIter, RangeValuesIter, into_ranges_of,
-    ranges_of,
+use blaze_iters::{
+    IntoIterMap, IntoKeys, IntoRangeValuesIter, IntoValues, IterMap, Keys, MapIntoRangesIter,
+    MapRangesIter, RangeValuesIter, Values, into_ranges_of, ranges_of,
 };
 use std::alloc::AllocError;
 

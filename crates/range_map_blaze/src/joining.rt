@@ -3,8 +3,8 @@
 ghost use Rattle.std.specs.Prelude.{◌≡◌, ◌<ℤ◌, ◌+ℤ◌, pos, int_le, [], ◌∷◌, ◌++◌, List, None};
 ghost use Rattle.std.specs.Prelude.{IfOk, OnOk, OnErr, option_map};
 ghost use Rattle.std.specs.Option.{option_to_list};
-ghost use Rattle.blaze_table.specs.Entries.{Entry, shown_range_entry};
-ghost use Rattle.blaze_table.specs.Painted.{ClonesAreAlike};
+ghost use Rattle.blaze_entries.specs.Entries.{Entry, shown_range_entry};
+ghost use Rattle.blaze_entries.specs.Painted.{ClonesAreAlike};
 ghost use Rattle.blaze_table.specs.Work.{IsCounted};
 ghost use Rattle.range_map_blaze.specs.Extended.{IsExtended, IsPairPainted};
 ghost use Rattle.range_map_blaze.specs.Underway.{are_one_pair, joined_pair, IsUnderway};

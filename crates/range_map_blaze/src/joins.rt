@@ -5,14 +5,15 @@ ghost use Rattle.blaze_streams.specs.JoinAnswers.{either, both, left_or_both, Is
 ghost use Rattle.blaze_streams.specs.JoinAnswers.{IsJoined};
 ghost use Rattle.blaze_streams.specs.Joins.{is_joined, IsJoinOf};
 ghost use Rattle.blaze_streams.specs.declared.segmenting.joins.JoinKind.TheVariants.{Inner, Left, Full};
-ghost use Rattle.blaze_table.specs.Counted.{uncounted};
+ghost use Rattle.blaze_entries.specs.Counted.{uncounted};
 ghost use Rattle.range_map_blaze.specs.Made.{IsMade};
 
 use crate::map::RangeMapBlaze;
 use blaze_int::Integer;
+use blaze_iters::{RangeValuesIter, SeekingRangeValuesIter};
 use blaze_streams::{
-    Asks, Both, CanonMapIter, Either, JoinKind, LeftOrBoth, Owned, RangeValuesIter,
-    SeekingRangeValuesIter, SortedDisjointMap, ValueCarrier, Whole, join_of,
+    Asks, Both, CanonMapIter, Either, JoinKind, LeftOrBoth, Owned, SortedDisjointMap, ValueCarrier,
+    Whole, join_of,
 };
 use blaze_table::{RangeTable, push_entry};
 use std::alloc::{AllocError, Global};

@@ -26,17 +26,19 @@ mod updates;
 mod within;
 
 pub use blaze_int::{Integer, SafeLength, UIntPlusOne, bounds_of, names_a_key};
-pub use blaze_iters::{IntoIterMap, IntoKeys, IntoValues, IterMap, Keys, Values};
-pub use blaze_streams::{
-    BothEnds, CanonIter, CanonMapIter, CheckSortedDisjoint, CheckSortedDisjointMap,
-    IntoRangeValuesIter, JoinKind, MapIntoRangesIter, MapRangesIter, MultiwayFullJoinMap,
-    MultiwayInnerJoinMap, MultiwayIntersectionMap, MultiwaySweep, MultiwaySymmetricDifferenceMap,
-    MultiwayUnionMap, NotSorted, Owned, OwnedRangeValuesIter, RangeValuesIter, Segment,
-    SortedDisjoint, SortedDisjointMap, SweepEvent, ValueCarrier, canonical_of, complement, fill,
-    intersect_with_ranges, intersection_of, join_of, segments, subtract_ranges, sweep_of,
-    symmetric_difference_of, transform, union_of,
+pub use blaze_iters::{
+    IntoIterMap, IntoKeys, IntoRangeValuesIter, IntoValues, IterMap, Keys, MapIntoRangesIter,
+    MapRangesIter, OwnedRangeValuesIter, RangeValuesIter, Values,
 };
-pub use blaze_table::{IntoRangesIter, RangeSetBlaze, RangesIter};
+pub use blaze_streams::{
+    BothEnds, CanonIter, CanonMapIter, CheckSortedDisjoint, CheckSortedDisjointMap, JoinKind,
+    MultiwayFullJoinMap, MultiwayInnerJoinMap, MultiwayIntersectionMap, MultiwaySweep,
+    MultiwaySymmetricDifferenceMap, MultiwayUnionMap, NotSorted, Owned, Segment, SortedDisjoint,
+    SortedDisjointMap, SweepEvent, ValueCarrier, complement, fill, intersect_with_ranges,
+    intersection_of, join_of, segments, subtract_ranges, sweep_of, symmetric_difference_of,
+    transform, union_of,
+};
+pub use blaze_table::{IntoRangesIter, RangeSetBlaze, RangesIter, canonical_of};
 pub use compare::turns::Turns;
 pub use from_streams::IntoRangeMapBlaze;
 pub use gaps::Gaps;

@@ -5,9 +5,9 @@ ghost use Rattle.std.specs.Prelude.{IfSome, option_map, ◌+ℤ◌, find, int_le
 ghost use Rattle.std.specs.Range.{range_inclusive_start, range_inclusive_end};
 ghost use Rattle.blaze_entries.specs.Starts.{last_below};
 ghost use Rattle.blaze_streams.specs.Ranges.{shown_range};
-ghost use Rattle.blaze_table.specs.Entries.{at, entry, entry_at, shown_entry};
+ghost use Rattle.blaze_entries.specs.Entries.{at, entry, entry_at, shown_entry};
 ghost use Rattle.blaze_table.specs.Gap.{IsGap};
-ghost use Rattle.blaze_table.specs.Whole.{IsWhole};
+ghost use Rattle.blaze_entries.specs.Whole.{IsWhole};
 ghost use Rattle.range_map_blaze.specs.Pairs.{IsFirstPair, IsLastPair};
 
 use crate::map::RangeMapBlaze;

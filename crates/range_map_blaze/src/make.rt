@@ -3,7 +3,7 @@ ghost use Rattle.std.specs.Iterator.{IsFiniteIterable};
 ghost use Rattle.std.specs.Prelude.{map, IfOk};
 ghost use Rattle.blaze_streams.specs.Ranges.{shown_range};
 ghost use Rattle.blaze_table.specs.CanonicalOf.{IsCanonicalOf};
-ghost use Rattle.blaze_table.specs.Painted.{ClonesAreAlike};
+ghost use Rattle.blaze_entries.specs.Painted.{ClonesAreAlike};
 ghost use Rattle.range_map_blaze.specs.Collected.{CollectsItems};
 ghost use Rattle.range_map_blaze.specs.Extended.{shown_point};
 ghost use Rattle.range_map_blaze.specs.Made.{IsMade};

@@ -1,16 +1,16 @@
 //! The map.
 ghost use Rattle.std.specs.Prelude.{◌≡◌, ◌↔◌, ℤ, ◌≤ℤ◌, pos, [], length, IsTrue, IsSome, IfOk};
-ghost use Rattle.blaze_table.specs.Canonical.{IsRangeMap};
-ghost use Rattle.blaze_table.specs.Count.{keys_in, mapped_keys};
-ghost use Rattle.blaze_table.specs.Counted.{uncounted};
-ghost use Rattle.blaze_table.specs.Entries.{at, SameEntries};
-ghost use Rattle.blaze_table.specs.Laws.{IsShortest};
-ghost use Rattle.blaze_table.specs.Painted.{ClonesAreAlike};
+ghost use Rattle.blaze_entries.specs.Canonical.{IsRangeMap};
+ghost use Rattle.blaze_entries.specs.Count.{keys_in, mapped_keys};
+ghost use Rattle.blaze_entries.specs.Counted.{uncounted};
+ghost use Rattle.blaze_entries.specs.Entries.{at, SameEntries};
+ghost use Rattle.blaze_entries.specs.Laws.{IsShortest};
+ghost use Rattle.blaze_entries.specs.Painted.{ClonesAreAlike};
 ghost use Rattle.range_map_blaze.specs.Made.{IsMade};
 
 use blaze_int::compare::length;
 use blaze_int::{Integer, differ};
-use blaze_streams::{RangeValuesIter, SeekingRangeValuesIter};
+use blaze_iters::{RangeValuesIter, SeekingRangeValuesIter};
 use blaze_table::RangeTable;
 use blaze_table::laws::canonical_is_shortest;
 use std::alloc::{AllocError, Global};
@@ -34,7 +34,7 @@ pub struct RangeMapBlaze<T: Integer, V: Eq> {
 }
 
 impl<T: Integer, V: Eq> Model for RangeMapBlaze<T, V> {
-    ghost use Rattle.blaze_table.specs.Counted.{CountedEntries, counted_code};
+    ghost use Rattle.blaze_entries.specs.Counted.{CountedEntries, counted_code};
 
     ghost Value = { CountedEntries V };
 

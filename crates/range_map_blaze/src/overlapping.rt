@@ -3,9 +3,9 @@ ghost use Rattle.std.specs.Iterator.{item_count};
 ghost use Rattle.std.specs.Prelude.{◌≡◌, ◌≤ℤ◌, ◌<ℤ◌, [], List};
 ghost use Rattle.blaze_int.specs.Bounds.{start_rank, end_rank};
 ghost use Rattle.blaze_streams.specs.Ranges.{shown_range};
-ghost use Rattle.blaze_table.specs.Ending.{overlapping};
-ghost use Rattle.blaze_table.specs.Entries.{Entry};
-ghost use Rattle.blaze_table.specs.Whole.{YieldsWholeFirst, YieldsWholeLast};
+ghost use Rattle.blaze_entries.specs.Ending.{overlapping};
+ghost use Rattle.blaze_entries.specs.Entries.{Entry};
+ghost use Rattle.blaze_entries.specs.Whole.{YieldsWholeFirst, YieldsWholeLast};
 ghost use Rattle.range_map_blaze.specs.Somewhere.{IsOverlappingSomewhere};
 ghost use Rattle.range_map_blaze.specs.Within.{within};
 
@@ -27,7 +27,7 @@ pub struct Overlapping<'a, T: Integer, V: Eq> {
 impl<'a, T: Integer, V: Eq> Model for Overlapping<'a, T, V> {
     ghost use Rattle.std.specs.Prelude.{List};
     ghost use Rattle.std.specs.Coded.{coded_list};
-    ghost use Rattle.blaze_table.specs.Entries.{Entry, entry_code};
+    ghost use Rattle.blaze_entries.specs.Entries.{Entry, entry_code};
     ghost use Rattle.range_map_blaze.specs.Within.{all_or_none};
 
     ghost Value = { List (Entry V) };

@@ -4,16 +4,15 @@ ghost use Rattle.std.specs.Iterator.{IsFiniteIterable};
 ghost use Rattle.std.specs.Prelude.{◌≡◌, [], ◌∷◌, ◌++◌, map, true, IfOk, OnOk};
 ghost use Rattle.blaze_streams.specs.Ranges.{shown_range};
 ghost use Rattle.blaze_table.specs.CanonicalOf.{IsCanonicalOf};
-ghost use Rattle.blaze_table.specs.Entries.{Entry, shown_entry, shown_list, SameEntries};
-ghost use Rattle.blaze_table.specs.Painted.{ClonesAreAlike};
+ghost use Rattle.blaze_entries.specs.Entries.{Entry, shown_entry, shown_list, SameEntries};
+ghost use Rattle.blaze_entries.specs.Painted.{ClonesAreAlike};
 ghost use Rattle.range_map_blaze.specs.Collected.{CollectsItems};
 ghost use Rattle.range_map_blaze.specs.Extended.{shown_point};
 ghost use Rattle.range_map_blaze.specs.Made.{IsMade};
 
 use crate::map::RangeMapBlaze;
 use blaze_int::Integer;
-use blaze_streams::canonical_of;
-use blaze_table::RangeTable;
+use blaze_table::{RangeTable, canonical_of};
 use std::alloc::{AllocError, Global};
 use std::ops::RangeInclusive;
 

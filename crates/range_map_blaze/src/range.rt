@@ -2,10 +2,10 @@
 ghost use Rattle.std.specs.Prelude.{◌≡◌, map, IfOk, ◌≤ℤ◌, List};
 ghost use Rattle.blaze_int.specs.Bounds.{start_rank, end_rank};
 ghost use Rattle.blaze_iters.specs.Left.{unopened, pairs_left};
-ghost use Rattle.blaze_table.specs.Chosen.{left_with_right, IsChosen};
-ghost use Rattle.blaze_table.specs.Entries.{Entry, SameEntries, shown_list};
-ghost use Rattle.blaze_table.specs.Painted.{ClonesAreAlike};
-ghost use Rattle.blaze_table.specs.Pairs.{pair_list};
+ghost use Rattle.blaze_entries.specs.Chosen.{left_with_right, IsChosen};
+ghost use Rattle.blaze_entries.specs.Entries.{Entry, SameEntries, shown_list};
+ghost use Rattle.blaze_entries.specs.Painted.{ClonesAreAlike};
+ghost use Rattle.blaze_entries.specs.Pairs.{pair_list};
 ghost use Rattle.range_map_blaze.specs.OneRange.{one_range};
 ghost use Rattle.range_map_blaze.specs.Somewhere.{IsTakenSomewhere};
 ghost use Rattle.range_map_blaze.specs.Within.{within};

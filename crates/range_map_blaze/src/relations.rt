@@ -5,7 +5,8 @@ ghost use Rattle.range_map_blaze.specs.Relations.{ShareNoKey, HasKeysOf};
 use crate::map::RangeMapBlaze;
 use blaze_int::Integer;
 use blaze_int::compare::is_below;
-use blaze_streams::{Cursor, SeekingRangeValuesIter};
+use blaze_iters::SeekingRangeValuesIter;
+use blaze_streams::Cursor;
 use blaze_table::{RangeSetBlaze, RangeTable};
 
 // Whether no key has a value in both tables. The cursor that lags skips the entries that end below the other's next key.

@@ -1,10 +1,10 @@
 //! The keys of a range, moved to a map.
 ghost use Rattle.std.specs.Prelude.{◌≡◌, ◌↔◌, ◌≤ℤ◌, [], IfOk, IsTrue, Ok, OnErr, OnOk};
 ghost use Rattle.blaze_int.specs.Bounds.{start_rank, end_rank};
-ghost use Rattle.blaze_table.specs.Counted.{uncounted};
-ghost use Rattle.blaze_table.specs.Entries.{at};
+ghost use Rattle.blaze_entries.specs.Counted.{uncounted};
+ghost use Rattle.blaze_entries.specs.Entries.{at};
 ghost use Rattle.blaze_table.specs.Gap.{IsClearFrom};
-ghost use Rattle.blaze_table.specs.Painted.{ClonesAreAlike};
+ghost use Rattle.blaze_entries.specs.Painted.{ClonesAreAlike};
 ghost use Rattle.blaze_table.specs.Work.{IsRefused, IsCountedCut};
 ghost use Rattle.range_map_blaze.specs.KeysTaken.{AreKeysTaken, IsTakenOutSomewhere};
 

@@ -5,9 +5,9 @@ ghost use Rattle.std.specs.Prelude.{◌≡◌, ◌≤ℤ◌, ◌<ℤ◌, pos, []
 ghost use Rattle.std.specs.Range.{range_inclusive_start, range_inclusive_end};
 ghost use Rattle.blaze_int.specs.Bounds.{start_rank, end_rank};
 ghost use Rattle.blaze_streams.specs.Ranges.{shown_range};
-ghost use Rattle.blaze_table.specs.Count.{keys_in, mapped_keys};
-ghost use Rattle.blaze_table.specs.Entries.{Entry, at};
-ghost use Rattle.blaze_table.specs.Whole.{IsWhole, YieldsWholeFirst, YieldsWholeLast};
+ghost use Rattle.blaze_entries.specs.Count.{keys_in, mapped_keys};
+ghost use Rattle.blaze_entries.specs.Entries.{Entry, at};
+ghost use Rattle.blaze_entries.specs.Whole.{IsWhole, YieldsWholeFirst, YieldsWholeLast};
 ghost use Rattle.range_map_blaze.specs.EntriesWithin.{IsWithin, IsWithinSomewhere, IsCountSomewhere};
 
 use crate::map::RangeMapBlaze;
@@ -33,7 +33,7 @@ pub struct Within<'a, T: Integer, V: Eq> {
 impl<'a, T: Integer, V: Eq> Model for Within<'a, T, V> {
     ghost use Rattle.std.specs.Prelude.{List};
     ghost use Rattle.std.specs.Coded.{coded_list};
-    ghost use Rattle.blaze_table.specs.Entries.{Entry, entry_code};
+    ghost use Rattle.blaze_entries.specs.Entries.{Entry, entry_code};
     ghost use Rattle.range_map_blaze.specs.Within.{cut_each};
 
     ghost Value = { List (Entry V) };

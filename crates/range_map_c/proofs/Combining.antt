@@ -5,14 +5,14 @@ use Rattle.std.proofs.lemmas.Int.{ints, by_lt_z}
 use Rattle.std.specs.Prelude.{int_le}
 use Rattle.blaze_int.proofs.Comparisons.{le_true, le_false}
 use Rattle.blaze_entries.proofs.Alike.{same_along, same_itself}
-use Rattle.blaze_table.specs.Canonical.{IsRangeMap, HasEnd}
+use Rattle.blaze_entries.specs.Canonical.{IsRangeMap, HasEnd}
 use Rattle.std.specs.Cmp.{nat_eq_equiv}
 use Rattle.std.specs.Cmp.Lexicographic.{options_equiv}
 use Rattle.std.specs.Fn.{Mut, Called}
 use Rattle.std.specs.List.{FoldsTo, zip}
 use Rattle.std.specs.Option.{option_eq}
-use Rattle.blaze_table.specs.Entries.{Entry, entry, at, SameEntries, SameOption}
-use Rattle.blaze_table.proofs.Paints.Painted.{entries_themselves}
+use Rattle.blaze_entries.specs.Entries.{Entry, entry, at, SameEntries, SameOption}
+use Rattle.blaze_entries.proofs.Paints.Painted.{entries_themselves}
 use Rattle.blaze_streams.specs.Answers.{values, entries_with_results, AnswersAtValue}
 use Rattle.range_map_blaze.specs.UpdateLaws.{changed, AreGivenBy}
 use Rattle.range_map_blaze.specs.Updated.{AreAnswersAtPieces, IsPartUpdated, IsUpdated}

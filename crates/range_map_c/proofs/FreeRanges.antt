@@ -6,11 +6,11 @@ use Rattle.std.specs.Option.{option_or, is_some}
 use Rattle.std.proofs.Common.{◌≡◌, ℕ, ◌<◌, ℤ, pos, ◌+ℤ◌, ◌-ℤ◌, ◌≤ℤ◌, ◌<ℤ◌, Bool, true, false, cond, List, [], ◌∷◌, ◌++◌, Option, Some, None, IsSome, refl, ◌∙◌, sym, ap, subst, arith}
 use Rattle.std.proofs.lemmas.Int.{ints, by_lt_z}
 use Rattle.blaze_entries.specs.Starts.{up_to}
-use Rattle.blaze_table.specs.Canonical.{IsCanonical}
-use Rattle.blaze_table.specs.Ending.{ending_from, overlapping}
-use Rattle.blaze_table.specs.Entries.{Entry, at, holds}
+use Rattle.blaze_entries.specs.Canonical.{IsCanonical}
+use Rattle.blaze_entries.specs.Ending.{ending_from, overlapping}
+use Rattle.blaze_entries.specs.Entries.{Entry, at, holds}
 use Rattle.blaze_table.specs.Filled.{IsMappedFrom}
-use Rattle.blaze_table.proofs.Canonical.Lookup.{at_in, at_under, at_over, at_append}
+use Rattle.blaze_entries.proofs.Canonical.Lookup.{at_in, at_under, at_over, at_append}
 use Rattle.range_map_c.specs.Gaps.{IsFreeRange, HasNoFreeRange, IsFirstFreeRange, IsLastFreeRange}
 
 module _ {V : Type 0} where

@@ -8,7 +8,7 @@ use Rattle.std.proofs.lemmas.Option.{slice_get-get_or, slice_get_past}
 use Rattle.std.specs.Option.{option_map}
 use Rattle.std.specs.List.{filter}
 use Rattle.blaze_entries.specs.Entries.{Entry, entry, at, entry_at, holds}
-use Rattle.blaze_table.specs.Ending.{overlapping}
+use Rattle.blaze_entries.specs.Ending.{overlapping}
 use Rattle.blaze_table.specs.Gap.{IsGap, IsClearFrom}
 use Rattle.range_map_c.specs.Ordered.{AreOrdered, AreApart, IsRank, IsRankBelow, IsSorted}
 use Rattle.range_map_c.specs.Tables.{rows}

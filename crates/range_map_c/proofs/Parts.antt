@@ -5,8 +5,8 @@ use Rattle.std.specs.Prelude.{int_le, nat_eq, zero, suc, length, take, drop, sli
 use Rattle.std.proofs.Common.{◌≡◌, ℕ, ◌+◌, ◌<◌, ℤ, pos, negsuc, Bool, true, false, ◌&&◌, cond, List, [], ◌∷◌, ◌++◌, Some, None, Result, Ok, Err, OnOk, OnErr, refl, ◌∙◌, sym, ap, subst, arith, inl, inr, w32, to_z, of_z}
 use Rattle.blaze_entries.specs.Entries.{Entry, entry, at, SameOption}
 use Rattle.blaze_entries.proofs.Alike.{same_itself}
-use Rattle.blaze_table.specs.Canonical.{IsRangeMap}
-use Rattle.blaze_table.specs.Painted.{IsPainted, last_at, painted_in_order}
+use Rattle.blaze_entries.specs.Canonical.{IsRangeMap}
+use Rattle.blaze_entries.specs.Painted.{IsPainted, last_at, painted_in_order}
 use Rattle.range_map_blaze.specs.Extended.{ArePaintedInTurn, IsPartPaintedInTurn}
 use Rattle.range_map_blaze.specs.Union.{IsUnion}
 use Rattle.range_map_blaze.proofs.Paints.PaintedOver.{painted_over}

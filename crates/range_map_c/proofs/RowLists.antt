@@ -7,7 +7,7 @@ use Rattle.std.proofs.Math.Seq.{take-append_seam}
 use Rattle.std.proofs.Math.Nat.{min-eq_left, min-eq_right}
 use Rattle.blaze_entries.specs.Entries.{Entry, entry, at, SameOption}
 use Rattle.blaze_table.specs.CanonicalOf.{IsCanonicalOf}
-use Rattle.blaze_table.specs.Painted.{last_at}
+use Rattle.blaze_entries.specs.Painted.{last_at}
 use Rattle.range_map_blaze.specs.Union.{IsUnion}
 use Rattle.range_map_c.specs.Handle.{least_key, greatest_key}
 use Rattle.range_map_c.specs.Tables.{rows, AreRowsPainted}

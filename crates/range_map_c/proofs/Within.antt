@@ -7,13 +7,13 @@ use Rattle.std.proofs.Common.{◌≡◌, ℕ, ◌+◌, ℤ, pos, ◌+ℤ◌, ◌
 use Rattle.std.proofs.lemmas.Int.{ints, by_lt_z}
 use Rattle.blaze_entries.specs.Overlap.{covered_keys, overlap, shared_count}
 use Rattle.blaze_entries.specs.Starts.{last_below, up_to}
-use Rattle.blaze_table.specs.Canonical.{AreKeys, IsCanonical}
-use Rattle.blaze_table.specs.Count.{keys_in}
-use Rattle.blaze_table.specs.Ending.{ending_from, overlapping}
-use Rattle.blaze_table.specs.Entries.{Entry, at}
+use Rattle.blaze_entries.specs.Canonical.{AreKeys, IsCanonical}
+use Rattle.blaze_entries.specs.Count.{keys_in}
+use Rattle.blaze_entries.specs.Ending.{ending_from, overlapping}
+use Rattle.blaze_entries.specs.Entries.{Entry, at}
 use Rattle.blaze_table.specs.Gap.{IsClearFrom}
-use Rattle.blaze_table.proofs.Canonical.Counted.{overlap_most, keys_among}
-use Rattle.blaze_table.proofs.Canonical.Lookup.{at_in}
+use Rattle.blaze_entries.proofs.Canonical.Counted.{overlap_most, keys_among}
+use Rattle.blaze_entries.proofs.Canonical.Lookup.{at_in}
 use Rattle.range_map_c.specs.Gaps.{HasKeyFrom}
 use Rattle.range_map_c.specs.Told.{first_of, last_of}
 use Rattle.range_map_c.proofs.FreeRanges.{AllFrom, AllUpTo, InOrder, in_order, order_some, from_some, from_ending, up_to_all, at_overlapping}

@@ -1,7 +1,7 @@
 -- A range whose values are combined with one value by an operation.
 use Rattle.std.specs.Prelude.{◌≡◌, ◌⊎◌, ℕ, ℤ, ◌+◌, ◌%◌, ◌^◌, ◌==◌, ◌<ℤ◌, int_le, if◌then◌else◌, min, max, bit_and, bit_or, bit_xor, List, Option, Some, None, nat_eq}
 use Rattle.blaze_entries.specs.Entries.{Entry, at, SameOption}
-use Rattle.blaze_table.specs.Canonical.{IsRangeMap, HasEnd}
+use Rattle.blaze_entries.specs.Canonical.{IsRangeMap, HasEnd}
 use Rattle.blaze_streams.specs.Fills.{IsFilledWithNone}
 use Rattle.range_map_blaze.specs.UpdateLaws.{changed}
 

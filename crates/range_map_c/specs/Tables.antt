@@ -2,8 +2,8 @@
 use Rattle.std.specs.Prelude.{◌≡◌, ℕ, ℤ, List, [], ◌∷◌, ◌++◌}
 use Rattle.std.specs.Prelude.{nat_eq}
 use Rattle.blaze_entries.specs.Entries.{Entry, entry, at, SameOption}
-use Rattle.blaze_table.specs.Canonical.{IsRangeMap}
-use Rattle.blaze_table.specs.Painted.{painted_in_order}
+use Rattle.blaze_entries.specs.Canonical.{IsRangeMap}
+use Rattle.blaze_entries.specs.Painted.{painted_in_order}
 
 -- the rows of a table, as entries
 abbrev pub rows : {V : Type 0} → List ℤ → List ℤ → List V → List (Entry V)

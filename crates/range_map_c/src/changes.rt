@@ -2,10 +2,10 @@
 ghost use Rattle.std.specs.Prelude.{◌≡◌, ◌↔◌, ◌<ℤ◌, pos, Some, None, IsTrue};
 ghost use Rattle.std.specs.Prelude.{nat_eq};
 ghost use Rattle.blaze_entries.specs.Entries.{entry, at};
-ghost use Rattle.blaze_table.specs.Count.{keys_in};
-ghost use Rattle.blaze_table.specs.Cut.{IsKeyRemoved, IsRangeCut, IsAmongOthers, GoesOnAbove};
+ghost use Rattle.blaze_entries.specs.Count.{keys_in};
+ghost use Rattle.blaze_entries.specs.Cut.{IsKeyRemoved, IsRangeCut, IsAmongOthers, GoesOnAbove};
 ghost use Rattle.blaze_table.specs.Filled.{IsFilled, IsMappedFrom};
-ghost use Rattle.blaze_table.specs.Painted.{IsPainted, IsInside};
+ghost use Rattle.blaze_entries.specs.Painted.{IsPainted, IsInside};
 ghost use Rattle.range_map_c.specs.Handle.{least_key, greatest_key};
 ghost use Rattle.range_map_c.specs.Status.{IsStatus, OnDone, OnRefused};
 ghost use Rattle.range_map_c.specs.Told.{told};

@@ -1,7 +1,7 @@
 //! How many keys have a value, and how many entries there are. None of the calls allocates.
 ghost use Rattle.std.specs.Prelude.{◌≡◌, ◌↔◌, ◌+◌, ◌*◌, ◌^◌, [], length, pos, IsTrue};
 ghost use Rattle.blaze_entries.specs.Overlap.{covered_keys};
-ghost use Rattle.blaze_table.specs.Count.{keys_in};
+ghost use Rattle.blaze_entries.specs.Count.{keys_in};
 
 use crate::handle::RangeMap;
 use crate::table_counts::shared_keys;

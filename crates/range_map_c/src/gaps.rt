@@ -3,7 +3,7 @@ ghost use Rattle.std.specs.Prelude.{◌≡◌, ◌↔◌, ◌<◌, ◌≤ℤ◌,
 ghost use Rattle.blaze_entries.specs.Entries.{entry, at};
 ghost use Rattle.blaze_table.specs.Filled.{IsMappedFrom};
 ghost use Rattle.blaze_table.specs.Gap.{IsClearFrom};
-ghost use Rattle.blaze_table.specs.Painted.{IsPainted};
+ghost use Rattle.blaze_entries.specs.Painted.{IsPainted};
 ghost use Rattle.range_map_c.specs.Gaps.{HasKeyFrom, HasNoFreeRange, IsFirstFreeRange, IsLastFreeRange};
 ghost use Rattle.range_map_c.specs.Handle.{least_key, greatest_key};
 ghost use Rattle.range_map_c.specs.Status.{IsFillStatus, OnDone, OnRefused, OnTaken};

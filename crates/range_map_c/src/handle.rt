@@ -151,7 +151,7 @@ impl RangeMap {
 
 impl RangeMap {
     ghost use Rattle.std.specs.Prelude.{nat_eq};
-    ghost use Rattle.blaze_table.specs.Canonical.{IsRangeMap};
+    ghost use Rattle.blaze_entries.specs.Canonical.{IsRangeMap};
     ghost use Rattle.range_map_c.specs.Handle.{least_key, greatest_key};
 
     /// Does nothing; its contract says that the entries are those of a range map.

@@ -1,7 +1,7 @@
 //! Lookups by key. None allocates; each takes O(log n) for n entries.
 ghost use Rattle.std.specs.Prelude.{◌≡◌, Some, None, IsFalse, MatchBool, MatchOption, option_map};
 ghost use Rattle.blaze_entries.specs.Entries.{entry, at, entry_at};
-ghost use Rattle.blaze_table.specs.Ending.{overlapping};
+ghost use Rattle.blaze_entries.specs.Ending.{overlapping};
 ghost use Rattle.blaze_table.specs.Gap.{IsGap};
 ghost use Rattle.range_map_c.specs.Handle.{least_key, greatest_key};
 ghost use Rattle.range_map_c.specs.Told.{told, told_entry, shown, first_of, last_of};

@@ -1,9 +1,9 @@
 //! Maps made of one or two others, and a map split in two. An operator takes O(n + m) for n and m entries, or less.
 ghost use Rattle.std.specs.Prelude.{◌≡◌, [], pos, IfOk, nat_eq};
 ghost use Rattle.std.specs.Option.{option_xor};
-ghost use Rattle.blaze_table.specs.Chosen.{left_with_right, left_alone, IsChosen};
-ghost use Rattle.blaze_table.specs.Complement.{IsComplement};
-ghost use Rattle.blaze_table.specs.Cut.{IsSplit};
+ghost use Rattle.blaze_entries.specs.Chosen.{left_with_right, left_alone, IsChosen};
+ghost use Rattle.blaze_entries.specs.Complement.{IsComplement};
+ghost use Rattle.blaze_entries.specs.Cut.{IsSplit};
 ghost use Rattle.range_map_blaze.specs.Union.{IsUnion};
 ghost use Rattle.range_map_c.specs.Handle.{least_key, greatest_key};
 ghost use Rattle.range_map_c.specs.Status.{IsStatus, OnDone, OnRefused};

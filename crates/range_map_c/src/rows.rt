@@ -2,7 +2,7 @@
 ghost use Rattle.std.specs.Prelude.{◌≡◌, ◌+◌, ◌<◌, length, min, take, drop, reverse, [], ◌∷◌, ◌++◌, MatchOption};
 ghost use Rattle.std.specs.Prelude.{IsTrue, IsFalse};
 ghost use Rattle.blaze_entries.specs.Entries.{entry};
-ghost use Rattle.blaze_table.specs.Ending.{overlapping};
+ghost use Rattle.blaze_entries.specs.Ending.{overlapping};
 ghost use Rattle.range_map_c.specs.Handle.{least_key, greatest_key};
 ghost use Rattle.range_map_c.specs.Tables.{rows};
 

@@ -3,7 +3,7 @@
 ghost use Rattle.std.specs.Prelude.{◌≡◌, ℕ, ◌+◌, ◌<◌, ◌≤◌, ◌<ℤ◌, ◌+ℤ◌, length, pos};
 ghost use Rattle.std.specs.Prelude.{Some, None, IsFalse, MatchBool, slice_index_or};
 ghost use Rattle.blaze_entries.specs.Entries.{entry, at, entry_at};
-ghost use Rattle.blaze_table.specs.Ending.{overlapping};
+ghost use Rattle.blaze_entries.specs.Ending.{overlapping};
 ghost use Rattle.blaze_table.specs.Gap.{IsGap};
 ghost use Rattle.range_map_c.specs.Handle.{least_key, greatest_key};
 ghost use Rattle.range_map_c.specs.Ordered.{AreOrdered};

@@ -1,6 +1,6 @@
 -- The number of keys that have a word.
 use Rattle.range_map_cli.proofs.Words.{◌≡◌, ℕ, zero, suc, ◌+◌, ℤ, pos, ◌+ℤ◌, List, [], ◌∷◌, ◌++◌, decimal, cond, refl, sym, ap, ◌∙◌, Option, Some, None, string_bytes, option_map, is_some, fun_ext, String, Global, Entry, at, mapped_keys, Content, greatest_key, mapped_count, line, least_key, Replies, Len, content_of}
-use Rattle.blaze_table.specs.Count.{mapped}
+use Rattle.blaze_entries.specs.Count.{mapped}
 
 some_word : (o : Option (String Global)) → is_some (option_map string_bytes o) ≡ is_some o
 some_word None = refl

@@ -1,6 +1,6 @@
 -- Operators on contents, key by key, and how many keys they map.
 use Rattle.range_map_cli.proofs.Words.{nat_of, option_xor, ◌≡◌, ℕ, zero, suc, ◌+◌, ℤ, pos, ◌+ℤ◌, ◌-ℤ◌, Bool, cond, Option, Some, None, is_some, refl, arith, IsSome, or_none, is_some_alike, at, right_first, left_with_right, left_alone, mapped_keys, CountsAddUp, DisjointUnionCommutes, EmptyIsUnit, PartsHaveItsKeys, SetKeeps, UnionIsAssociative, UnionIsIdempotent, UniversalKeeps, XorWithItselfIsEmpty}
-use Rattle.blaze_table.specs.Count.{mapped}
+use Rattle.blaze_entries.specs.Count.{mapped}
 use Rattle.range_map_cli.proofs.Stepping.EndKeys.{mapped_alike}
 
 module _ {V : Type 0} where

@@ -43,27 +43,27 @@ pub use Rattle.blaze_int.specs.Ranked.{IsKey}
 pub use Rattle.blaze_int.specs.Unsigned.{nat_of}
 pub use Rattle.blaze_iters.specs.Left.{pairs_left, unopened}
 pub use Rattle.blaze_iters.specs.Owned.{HasSeveralFirst, HasSeveralLast, IsLikePair, OwnedLeft, owned_ranges}
-pub use Rattle.blaze_table.proofs.Canonical.ListLaws.{canonical_is_unique}
-pub use Rattle.blaze_table.proofs.Canonical.Lookup.{holds_in, holds_ends, at_clear, at_over, at_under, by_place}
-pub use Rattle.blaze_table.proofs.Canonical.Runs.{canonical}
-pub use Rattle.blaze_table.proofs.Canonical.SameLists.{content_decides}
+pub use Rattle.blaze_entries.proofs.Canonical.ListLaws.{canonical_is_unique}
+pub use Rattle.blaze_entries.proofs.Canonical.Lookup.{holds_in, holds_ends, at_clear, at_over, at_under, by_place}
+pub use Rattle.blaze_entries.proofs.Canonical.Runs.{canonical}
+pub use Rattle.blaze_entries.proofs.Canonical.SameLists.{content_decides}
 pub use Rattle.blaze_table.proofs.Pairs.Lasts.{painted_one}
 pub use Rattle.blaze_table.proofs.Pairs.PairLaws.{pairs_are_content}
 pub use Rattle.blaze_table.proofs.Sweeping.Canonicals.{few_painted}
 pub use Rattle.blaze_table.proofs.Walks.Worked.{counted_none, counted_then}
-pub use Rattle.blaze_table.specs.Canonical.{IsRunStart, IsRunEnd, IsRangeMap, IsOnePerRun, IsDisjoint, IsAscending, IsClear, HasStart, HasEnd, AreKeys}
+pub use Rattle.blaze_entries.specs.Canonical.{IsRunStart, IsRunEnd, IsRangeMap, IsOnePerRun, IsDisjoint, IsAscending, IsClear, HasStart, HasEnd, AreKeys}
 pub use Rattle.blaze_table.specs.CanonicalOf.{keyed_count}
-pub use Rattle.blaze_table.specs.Chosen.{right_first, IsChosen, left_with_right, left_alone}
-pub use Rattle.blaze_table.specs.Complement.{value_if_none, IsComplement}
-pub use Rattle.blaze_table.specs.Count.{mapped_keys, keys_in}
-pub use Rattle.blaze_table.specs.Counted.{CountedEntries}
-pub use Rattle.blaze_table.specs.Cut.{below_at, from_at, cut_at}
-pub use Rattle.blaze_table.specs.Entries.{Entry, entry, at, entry_at, holds, SameOption, SameEntries, SameContent}
-pub use Rattle.blaze_table.specs.Equality.{same_entries}
+pub use Rattle.blaze_entries.specs.Chosen.{right_first, IsChosen, left_with_right, left_alone}
+pub use Rattle.blaze_entries.specs.Complement.{value_if_none, IsComplement}
+pub use Rattle.blaze_entries.specs.Count.{mapped_keys, keys_in}
+pub use Rattle.blaze_entries.specs.Counted.{CountedEntries}
+pub use Rattle.blaze_entries.specs.Cut.{below_at, from_at, cut_at}
+pub use Rattle.blaze_entries.specs.Entries.{Entry, entry, at, entry_at, holds, SameOption, SameEntries, SameContent}
+pub use Rattle.blaze_entries.specs.Equality.{same_entries}
 pub use Rattle.blaze_table.specs.Filled.{filled_content, IsFilled}
 pub use Rattle.blaze_table.specs.Gap.{IsGap}
-pub use Rattle.blaze_table.specs.Painted.{last_at, painted_in_order, painted_content, IsPainted}
-pub use Rattle.blaze_table.specs.Pairs.{value_at, IsAscendingPairs, pairs_from, pairs_of, pair_list}
+pub use Rattle.blaze_entries.specs.Painted.{last_at, painted_in_order, painted_content, IsPainted}
+pub use Rattle.blaze_entries.specs.Pairs.{value_at, IsAscendingPairs, pairs_from, pairs_of, pair_list}
 pub use Rattle.blaze_table.specs.Work.{IsCounted, PutsAtMost, IsCountedCut}
 pub use Rattle.range_map_blaze.proofs.Order.MapOrder.{order_of_pairs, ties_where_equal}
 pub use Rattle.range_map_blaze.proofs.Paints.PaintedOver.{last_is_first, painted_over, turned}

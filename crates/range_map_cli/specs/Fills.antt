@@ -2,8 +2,8 @@
 use Rattle.std.specs.Prelude.{◌≡◌, ℕ, ◌+◌, ℤ, List, [], ◌∷◌, All, Option}
 use Rattle.std.specs.Option.{option_or}
 use Rattle.blaze_table.specs.CanonicalOf.{keyed_count}
-use Rattle.blaze_table.specs.Entries.{Entry, entry, at}
-use Rattle.blaze_table.specs.Painted.{last_at, painted_in_order}
+use Rattle.blaze_entries.specs.Entries.{Entry, entry, at}
+use Rattle.blaze_entries.specs.Painted.{last_at, painted_in_order}
 use Rattle.range_map_cli.specs.Steps.{after_all}
 use Rattle.range_map_cli.specs.declared.step.Step.{Step}
 use Rattle.range_map_cli.specs.declared.step.Step.TheVariants.{Paint, Fill}

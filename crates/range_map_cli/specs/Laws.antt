@@ -10,14 +10,14 @@ use Rattle.std.specs.declared.alloc.AllocError.{AllocError}
 use Rattle.blaze_int.specs.Ranked.{IsKey}
 use Rattle.blaze_iters.specs.Left.{pairs_left}
 use Rattle.blaze_iters.specs.Owned.{GivesFirst, GivesLast, IsLikePair, OwnedLeft}
-use Rattle.blaze_table.specs.Canonical.{IsRangeMap}
-use Rattle.blaze_table.specs.Chosen.{right_first, left_with_right, left_alone, IsChosen}
-use Rattle.blaze_table.specs.Count.{mapped_keys}
-use Rattle.blaze_table.specs.Cut.{IsSplit}
-use Rattle.blaze_table.specs.Entries.{Entry, entry, at, entry_at, SameContent, SameEntries, SameOption}
-use Rattle.blaze_table.specs.Equality.{same_entries}
+use Rattle.blaze_entries.specs.Canonical.{IsRangeMap}
+use Rattle.blaze_entries.specs.Chosen.{right_first, left_with_right, left_alone, IsChosen}
+use Rattle.blaze_entries.specs.Count.{mapped_keys}
+use Rattle.blaze_entries.specs.Cut.{IsSplit}
+use Rattle.blaze_entries.specs.Entries.{Entry, entry, at, entry_at, SameContent, SameEntries, SameOption}
+use Rattle.blaze_entries.specs.Equality.{same_entries}
 use Rattle.blaze_table.specs.Gap.{IsGap}
-use Rattle.blaze_table.specs.Painted.{IsPainted}
+use Rattle.blaze_entries.specs.Painted.{IsPainted}
 use Rattle.range_map_blaze.specs.Extended.{IsExtended}
 use Rattle.range_map_blaze.specs.Order.{map_cmp, ranked_pairs}
 

@@ -2,12 +2,12 @@
 use Rattle.std.specs.Prelude.{◌≡◌, ℕ, ◌^◌, ◌-◌, ℤ, pos, negsuc, List, [], ◌∷◌, ◌++◌, Option, Some, None, if◌then◌else◌, ◌==◌, codes, decimal}
 use Rattle.std.specs.Fmt.{signed_decimal}
 use Rattle.std.specs.Str.{bytes_eq}
-use Rattle.blaze_table.specs.Entries.{Entry, at}
-use Rattle.blaze_table.specs.Canonical.{IsOnePerRun}
-use Rattle.blaze_table.specs.Count.{mapped_keys}
+use Rattle.blaze_entries.specs.Entries.{Entry, at}
+use Rattle.blaze_entries.specs.Canonical.{IsOnePerRun}
+use Rattle.blaze_entries.specs.Count.{mapped_keys}
 use Rattle.blaze_table.specs.Filled.{filled_content}
-use Rattle.blaze_table.specs.Painted.{painted_content}
-use Rattle.blaze_table.specs.Cut.{cut_at}
+use Rattle.blaze_entries.specs.Painted.{painted_content}
+use Rattle.blaze_entries.specs.Cut.{cut_at}
 use Rattle.range_map_cli.specs.Commands.{Command, Blank, Paint, Fill, Insert, Remove, Get, At, Len, Entries}
 use Rattle.range_map_cli.specs.Pieces.{IsGreatestPiece}
 

@@ -3,7 +3,7 @@ use Rattle.std.specs.Prelude.{◌≡◌, ℤ, List, IfSome, true, string_bytes}
 use Rattle.std.specs.Option.{option_map}
 use Rattle.std.specs.declared.string.String.{String}
 use Rattle.std.specs.declared.alloc.Global.{Global}
-use Rattle.blaze_table.specs.Entries.{Entry, at}
+use Rattle.blaze_entries.specs.Entries.{Entry, at}
 use Rattle.range_map_cli.specs.Commands.{is_word}
 use Rattle.range_map_cli.specs.Replies.{Content}
 

@@ -2,15 +2,15 @@
 use Rattle.blaze_int.specs.Unsigned.{nat_of}
 use Rattle.std.specs.Option.{option_xor}
 use Rattle.std.specs.Prelude.{◌≡◌, ◌⊎◌, ℕ, zero, suc, ◌*◌, ◌+◌, ◌≤◌, ◌<◌, ℤ, pos, ◌+ℤ◌, ◌-ℤ◌, int_le, Bool, true, ◌&&◌, not, ◌==◌, if◌then◌else◌, is_some, List, [], ◌∷◌, length, take, Option, Some, None}
-use Rattle.blaze_table.specs.Counted.{CountedEntries}
-use Rattle.blaze_table.specs.Entries.{Entry, at, SameOption}
-use Rattle.blaze_table.specs.Canonical.{IsRangeMap}
-use Rattle.blaze_table.specs.Chosen.{right_first, left_with_right, left_alone}
-use Rattle.blaze_table.specs.Complement.{value_if_none}
-use Rattle.blaze_table.specs.Count.{mapped_keys}
-use Rattle.blaze_table.specs.Cut.{cut_at, below_at, from_at}
+use Rattle.blaze_entries.specs.Counted.{CountedEntries}
+use Rattle.blaze_entries.specs.Entries.{Entry, at, SameOption}
+use Rattle.blaze_entries.specs.Canonical.{IsRangeMap}
+use Rattle.blaze_entries.specs.Chosen.{right_first, left_with_right, left_alone}
+use Rattle.blaze_entries.specs.Complement.{value_if_none}
+use Rattle.blaze_entries.specs.Count.{mapped_keys}
+use Rattle.blaze_entries.specs.Cut.{cut_at, below_at, from_at}
 use Rattle.blaze_table.specs.Filled.{filled_content}
-use Rattle.blaze_table.specs.Painted.{painted_content}
+use Rattle.blaze_entries.specs.Painted.{painted_content}
 use Rattle.blaze_table.specs.Work.{IsCounted}
 use Rattle.range_map_cli.specs.declared.step.Step.{Step}
 use Rattle.range_map_cli.specs.declared.step.Step.TheVariants.{Paint, Fill, Insert, Remove, PopFirst, PopLast, Clear, KeepBelow, KeepFrom, Or, And, Minus, Xor, AndSet, MinusSet, ComplementWith}

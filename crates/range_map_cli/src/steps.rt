@@ -1,8 +1,8 @@
 //! Lists of steps.
 ghost use Rattle.std.specs.Prelude.{◌≡◌, ◌≤◌, ◌-◌, ◌*◌, [], length, All, IfOk, IfErr, OnOk, OnErr};
-ghost use Rattle.blaze_table.specs.Entries.{at};
-ghost use Rattle.blaze_table.specs.Laws.{IsShortest};
-ghost use Rattle.blaze_table.specs.Painted.{ClonesAreAlike};
+ghost use Rattle.blaze_entries.specs.Entries.{at};
+ghost use Rattle.blaze_entries.specs.Laws.{IsShortest};
+ghost use Rattle.blaze_entries.specs.Painted.{ClonesAreAlike};
 ghost use Rattle.blaze_table.specs.Work.{IsCounted, IsRefused, IsCountedCut, PutsAtMost};
 ghost use Rattle.range_map_cli.specs.Fills.{ranges_in, IsPaintOrFill};
 ghost use Rattle.range_map_cli.specs.Steps.{answer, first_mapped_key, last_mapped_key, key_with_value, answers, Combines};

@@ -43,17 +43,17 @@ pub use Rattle.blaze_streams.specs.Ranges.{shown_range}
 pub use Rattle.blaze_streams.specs.Segments.{row, row_eq, row_if_any, shown_segment}
 pub use Rattle.blaze_streams.specs.declared.segmenting.joins.JoinKind.{JoinKind}
 pub use Rattle.blaze_streams.specs.declared.segmenting.joins.JoinKind.TheVariants.{Inner, Full}
-pub use Rattle.blaze_table.proofs.Canonical.Counted.{are_keys_after}
-pub use Rattle.blaze_table.proofs.Canonical.ListLaws.{canonical_is_unique}
-pub use Rattle.blaze_table.proofs.Canonical.Lookup.{at_in, IsAbove, IsAbove-from_apart, at_under, at_over, at_before, by_place}
-pub use Rattle.blaze_table.proofs.Canonical.Runs.{canonical, one_per_run}
-pub use Rattle.blaze_table.proofs.Canonical.Unique.{back, unique}
-pub use Rattle.blaze_table.proofs.Paints.Painted.{content_as}
-pub use Rattle.blaze_table.proofs.Pairs.Indexed.{from_index}
-pub use Rattle.blaze_table.specs.Canonical.{IsApart, IsCanonical, AreKeys, IsRangeMap}
-pub use Rattle.blaze_table.specs.Chosen.{right_first, left_with_right, IsChosen}
-pub use Rattle.blaze_table.specs.Entries.{Entry, entry, at, holds, SameOption, SameEntries}
-pub use Rattle.blaze_table.specs.Splice.{glue, after}
+pub use Rattle.blaze_entries.proofs.Canonical.Counted.{are_keys_after}
+pub use Rattle.blaze_entries.proofs.Canonical.ListLaws.{canonical_is_unique}
+pub use Rattle.blaze_entries.proofs.Canonical.Lookup.{at_in, IsAbove, IsAbove-from_apart, at_under, at_over, at_before, by_place}
+pub use Rattle.blaze_entries.proofs.Canonical.Runs.{canonical, one_per_run}
+pub use Rattle.blaze_entries.proofs.Canonical.Unique.{back, unique}
+pub use Rattle.blaze_entries.proofs.Paints.Painted.{content_as}
+pub use Rattle.blaze_entries.proofs.Lists.Indexed.{from_index}
+pub use Rattle.blaze_entries.specs.Canonical.{IsApart, IsCanonical, AreKeys, IsRangeMap}
+pub use Rattle.blaze_entries.specs.Chosen.{right_first, left_with_right, IsChosen}
+pub use Rattle.blaze_entries.specs.Entries.{Entry, entry, at, holds, SameOption, SameEntries}
+pub use Rattle.blaze_entries.specs.Splice.{glue, after}
 pub use Rattle.range_map_blaze.proofs.JoinedKeys.{below_all, above_all}
 pub use Rattle.range_map_blaze.proofs.Made.{made_of}
 pub use Rattle.range_map_blaze.proofs.Streams.{range_map_as}

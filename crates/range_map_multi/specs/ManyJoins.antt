@@ -1,8 +1,8 @@
 -- The results of a closure at the segments of many lists: the longest ranges on which none of them changes.
 use Rattle.std.specs.Prelude.{◌≡◌, ℤ, ◌≤ℤ◌, Bool, if◌then◌else◌, List, map, Option, Some, None}
 use Rattle.std.specs.Fn.{Mut}
-use Rattle.blaze_table.specs.Entries.{Entry, at}
-use Rattle.blaze_table.specs.Canonical.{IsRangeMap}
+use Rattle.blaze_entries.specs.Entries.{Entry, at}
+use Rattle.blaze_entries.specs.Canonical.{IsRangeMap}
 use Rattle.blaze_streams.specs.Answers.{values, IsCallableAtEachValue, IsTransformed}
 use Rattle.blaze_streams.specs.Carried.{shown_option}
 use Rattle.blaze_streams.specs.Segments.{row, row_eq}

@@ -3,8 +3,8 @@ use Rattle.std.specs.Option.{option_xor}
 use Rattle.std.specs.Prelude.{◌≡◌, ℤ, Bool, List, [], ◌∷◌, Option, is_some}
 use Rattle.std.specs.Fn.{Mut}
 use Rattle.std.specs.List.{list_all, list_any}
-use Rattle.blaze_table.specs.Entries.{Entry, SameEntries}
-use Rattle.blaze_table.specs.Chosen.{right_first, left_with_right, IsChosen}
+use Rattle.blaze_entries.specs.Entries.{Entry, SameEntries}
+use Rattle.blaze_entries.specs.Chosen.{right_first, left_with_right, IsChosen}
 use Rattle.blaze_streams.specs.declared.segmenting.joins.JoinKind.TheVariants.{Inner, Full}
 use Rattle.blaze_streams.specs.JoinAnswers.{IsJoined}
 use Rattle.blaze_streams.specs.Many.{last_value, last_of_all, last_of_odd, IsChosenOfMany}

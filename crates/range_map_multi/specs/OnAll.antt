@@ -2,7 +2,7 @@
 use Rattle.std.specs.Prelude.{ℤ, Bool, if◌then◌else◌, List, Option, None}
 use Rattle.std.specs.Option.{is_some}
 use Rattle.std.specs.List.{list_all}
-use Rattle.blaze_table.specs.Entries.{Entry, at, SameOption}
+use Rattle.blaze_entries.specs.Entries.{Entry, at, SameOption}
 use Rattle.blaze_streams.specs.Segments.{row}
 
 -- a value, if each of a row is present

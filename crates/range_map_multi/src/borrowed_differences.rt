@@ -1,6 +1,6 @@
 //! The symmetric difference of many borrowed maps.
 ghost use Rattle.std.specs.Prelude.{◌<◌, ◌∷◌, length, map, IfOk};
-ghost use Rattle.blaze_table.specs.Painted.{ClonesAreAlike};
+ghost use Rattle.blaze_entries.specs.Painted.{ClonesAreAlike};
 ghost use Rattle.range_map_blaze.specs.Made.{IsMade};
 ghost use Rattle.blaze_streams.specs.Many.{last_of_odd, IsChosenOfMany};
 

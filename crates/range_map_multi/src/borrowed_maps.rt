@@ -1,10 +1,10 @@
 //! Many borrowed maps, in a list of maps or of references to maps. The maps show that the keys outlive the borrow. Code that is
 //! generic over keys needs this where it calls a function of streams.
 ghost use Rattle.std.specs.Prelude.{◌≡◌, List, map, refl, IfOk};
-ghost use Rattle.blaze_table.specs.Entries.{Entry};
+ghost use Rattle.blaze_entries.specs.Entries.{Entry};
 
 use blaze_int::Integer;
-use blaze_streams::SeekingRangeValuesIter;
+use blaze_iters::SeekingRangeValuesIter;
 use range_map_blaze::RangeMapBlaze;
 use std::alloc::{AllocError, Global};
 

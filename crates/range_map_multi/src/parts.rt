@@ -1,7 +1,7 @@
 //! Streams in two parts: the ranges with positions, which a join goes through, and the carriers at these positions, from which it
 //! makes rows.
 ghost use Rattle.std.specs.Prelude.{◌≡◌, map, IfOk};
-ghost use Rattle.blaze_table.specs.Canonical.{IsRangeMap};
+ghost use Rattle.blaze_entries.specs.Canonical.{IsRangeMap};
 ghost use Rattle.range_map_multi.specs.Parts.{HasPlacedValues, AllPlaced, AllRangeMaps};
 
 use blaze_int::Integer;

@@ -1,7 +1,7 @@
 //! Operations between any number of streams.
 ghost use Rattle.std.specs.Prelude.{◌<◌, List, length, map, is_some, IfOk};
 ghost use Rattle.std.specs.List.{list_all, list_any};
-ghost use Rattle.blaze_table.specs.Entries.{Entry};
+ghost use Rattle.blaze_entries.specs.Entries.{Entry};
 ghost use Rattle.blaze_streams.specs.Sweeps.{IsSweep};
 ghost use Rattle.blaze_streams.specs.Many.{last_value, last_of_all, last_of_odd, IsChosenOfMany};
 ghost use Rattle.range_map_multi.specs.ManyJoins.{shown_row, shown_full_row, IsCallableAtRows};

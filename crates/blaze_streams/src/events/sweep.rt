@@ -1,6 +1,6 @@
 //! A sweep over many streams.
 ghost use Rattle.std.specs.Prelude.{◌≡◌, ◌++◌, map, IfOk, OnOk};
-ghost use Rattle.blaze_table.specs.Canonical.{IsRangeMap};
+ghost use Rattle.blaze_entries.specs.Canonical.{IsRangeMap};
 ghost use Rattle.blaze_streams.specs.Sweeps.{IsSweep, events_of, shown_events};
 
 use crate::carrier::ValueCarrier;

@@ -2,10 +2,10 @@
 ghost use Rattle.std.specs.Prelude.{◌≡◌, length, refl, Some, IfSome};
 ghost use Rattle.std.specs.Iterator.{item_count, UpTo};
 ghost use Rattle.std.specs.Iterator.SizeHint.{IsWithinCount};
-ghost use Rattle.blaze_table.specs.RangeSets.{shown_bare_range, shown_bare_ranges, IsRangeSet};
-ghost use Rattle.blaze_table.specs.Whole.{YieldsWholeFirst};
+ghost use Rattle.blaze_entries.specs.RangeSets.{shown_bare_range, shown_bare_ranges, IsRangeSet};
+ghost use Rattle.blaze_entries.specs.Whole.{YieldsWholeFirst};
 
-use crate::sorted_disjoint::SortedDisjoint;
+use blaze_entries::SortedDisjoint;
 use blaze_int::Integer;
 use std::iter::FusedIterator;
 use std::marker::Model;
@@ -22,8 +22,8 @@ impl<T: Integer> Model for CanonIter<T> {
     ghost use Rattle.std.specs.Prelude.{List};
     ghost use Rattle.std.specs.Coded.{coded_list};
     ghost use Rattle.std.specs.Vec.Iter.{into_iter_items};
-    ghost use Rattle.blaze_table.specs.Entries.{Entry};
-    ghost use Rattle.blaze_table.specs.RangeSets.{bare_code, shown_bare_ranges, IsRangeSet};
+    ghost use Rattle.blaze_entries.specs.Entries.{Entry};
+    ghost use Rattle.blaze_entries.specs.RangeSets.{bare_code, shown_bare_ranges, IsRangeSet};
 
     ghost Value = { List (Entry (Unit {0})) };
 

@@ -2,10 +2,10 @@
 ghost use Rattle.std.specs.Prelude.{◌≡◌, length, refl, Some, IfSome};
 ghost use Rattle.std.specs.Iterator.{item_count, UpTo};
 ghost use Rattle.std.specs.Iterator.SizeHint.{IsWithinCount};
-ghost use Rattle.blaze_table.specs.Canonical.{IsRangeMap};
+ghost use Rattle.blaze_entries.specs.Canonical.{IsRangeMap};
 ghost use Rattle.blaze_streams.specs.RangeLists.{shown_ranges};
 ghost use Rattle.blaze_streams.specs.Ranges.{shown_range};
-ghost use Rattle.blaze_table.specs.Whole.{YieldsWholeFirst};
+ghost use Rattle.blaze_entries.specs.Whole.{YieldsWholeFirst};
 
 use crate::carrier::ValueCarrier;
 use crate::sorted_disjoint_map::SortedDisjointMap;
@@ -25,8 +25,8 @@ impl<T: Integer, VC: ValueCarrier> Model for CanonMapIter<T, VC> {
     ghost use Rattle.std.specs.Prelude.{List};
     ghost use Rattle.std.specs.Coded.{coded_list};
     ghost use Rattle.std.specs.Vec.Iter.{into_iter_items};
-    ghost use Rattle.blaze_table.specs.Entries.{Entry, entry_code};
-    ghost use Rattle.blaze_table.specs.Canonical.{IsRangeMap};
+    ghost use Rattle.blaze_entries.specs.Entries.{Entry, entry_code};
+    ghost use Rattle.blaze_entries.specs.Canonical.{IsRangeMap};
     ghost use Rattle.blaze_streams.specs.RangeLists.{shown_ranges};
 
     ghost Value = { List (Entry VC.Value) };

@@ -2,15 +2,15 @@
 ghost use Rattle.std.specs.Prelude.{◌≡◌, ◌↔◌, length, refl, Some, IfSome, IfOk, IfErr, IsOk};
 ghost use Rattle.std.specs.Iterator.{item_count, UpTo};
 ghost use Rattle.std.specs.Iterator.SizeHint.{IsWithinCount};
-ghost use Rattle.blaze_table.specs.Canonical.{IsOnePerRun};
+ghost use Rattle.blaze_entries.specs.Canonical.{IsOnePerRun};
 ghost use Rattle.blaze_streams.specs.Violations.{IsFirstViolation};
-ghost use Rattle.blaze_table.specs.RangeSets.{shown_bare_range, shown_bare_ranges, unit_eq};
-ghost use Rattle.blaze_table.specs.Whole.{YieldsWholeFirst};
+ghost use Rattle.blaze_entries.specs.RangeSets.{shown_bare_range, shown_bare_ranges, unit_eq};
+ghost use Rattle.blaze_entries.specs.Whole.{YieldsWholeFirst};
 
 use crate::lists::canon::CanonIter;
 use crate::lists::not_sorted::NotSorted;
 use crate::lists::violations::first_violation;
-use crate::sorted_disjoint::SortedDisjoint;
+use blaze_entries::SortedDisjoint;
 use blaze_int::Integer;
 use std::iter::FusedIterator;
 use std::marker::Model;
@@ -25,8 +25,8 @@ pub struct CheckSortedDisjoint<T: Integer> {
 impl<T: Integer> Model for CheckSortedDisjoint<T> {
     ghost use Rattle.std.specs.Prelude.{List};
     ghost use Rattle.std.specs.Coded.{coded_list};
-    ghost use Rattle.blaze_table.specs.Entries.{Entry};
-    ghost use Rattle.blaze_table.specs.RangeSets.{bare_code};
+    ghost use Rattle.blaze_entries.specs.Entries.{Entry};
+    ghost use Rattle.blaze_entries.specs.RangeSets.{bare_code};
 
     ghost Value = { List (Entry (Unit {0})) };
 

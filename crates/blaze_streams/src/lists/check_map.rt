@@ -2,11 +2,11 @@
 ghost use Rattle.std.specs.Prelude.{◌≡◌, ◌↔◌, length, refl, Some, IfSome, IfOk, IfErr, IsOk};
 ghost use Rattle.std.specs.Iterator.{item_count, UpTo};
 ghost use Rattle.std.specs.Iterator.SizeHint.{IsWithinCount};
-ghost use Rattle.blaze_table.specs.Canonical.{IsOnePerRun};
+ghost use Rattle.blaze_entries.specs.Canonical.{IsOnePerRun};
 ghost use Rattle.blaze_streams.specs.Violations.{IsFirstViolation};
 ghost use Rattle.blaze_streams.specs.RangeLists.{shown_ranges};
 ghost use Rattle.blaze_streams.specs.Ranges.{shown_range};
-ghost use Rattle.blaze_table.specs.Whole.{YieldsWholeFirst};
+ghost use Rattle.blaze_entries.specs.Whole.{YieldsWholeFirst};
 
 use crate::carrier::ValueCarrier;
 use crate::lists::canon_map::CanonMapIter;
@@ -27,7 +27,7 @@ pub struct CheckSortedDisjointMap<T: Integer, VC: ValueCarrier> {
 impl<T: Integer, VC: ValueCarrier> Model for CheckSortedDisjointMap<T, VC> {
     ghost use Rattle.std.specs.Prelude.{List};
     ghost use Rattle.std.specs.Coded.{coded_list};
-    ghost use Rattle.blaze_table.specs.Entries.{Entry, entry_code};
+    ghost use Rattle.blaze_entries.specs.Entries.{Entry, entry_code};
 
     ghost Value = { List (Entry VC.Value) };
 

@@ -1,10 +1,10 @@
 //! The first invalid item of a list.
 ghost use Rattle.std.specs.Prelude.{◌≡◌, map, option_map, IfSome, IfNone};
 ghost use Rattle.std.specs.Option.{option_copied};
-ghost use Rattle.blaze_table.specs.Entries.{Entry};
-ghost use Rattle.blaze_table.specs.Canonical.{IsRangeMap};
+ghost use Rattle.blaze_entries.specs.Entries.{Entry};
+ghost use Rattle.blaze_entries.specs.Canonical.{IsRangeMap};
 ghost use Rattle.blaze_streams.specs.Violations.{violates, IsFirstViolation};
-ghost use Rattle.blaze_table.specs.RangeSets.{shown_bare_range};
+ghost use Rattle.blaze_entries.specs.RangeSets.{shown_bare_range};
 ghost use Rattle.blaze_streams.specs.RangeLists.{IsWithin};
 ghost use Rattle.blaze_streams.specs.Ranges.{shown_range};
 

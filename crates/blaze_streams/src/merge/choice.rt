@@ -1,18 +1,18 @@
 //! Choices between the values of two streams at a key.
 ghost use Rattle.std.specs.Prelude.{◌≡◌, ℤ, Option, None, refl, IfOk, MatchOption};
 ghost use Rattle.std.specs.Option.{option_map, option_xor};
-ghost use Rattle.blaze_table.specs.Canonical.{IsCanonical};
-ghost use Rattle.blaze_table.specs.Entries.{at};
-ghost use Rattle.blaze_table.specs.Chosen.{right_first, left_with_right, left_alone};
+ghost use Rattle.blaze_entries.specs.Canonical.{IsCanonical};
+ghost use Rattle.blaze_entries.specs.Entries.{at};
+ghost use Rattle.blaze_entries.specs.Chosen.{right_first, left_with_right, left_alone};
 ghost use Rattle.blaze_streams.specs.Choosing.{IsTaken};
 
 use crate::carrier::ValueCarrier;
 use crate::cursor::Cursor;
 use crate::merge::pieces::{take_before, take_both};
 use crate::sorted_disjoint_map::SortedDisjointMap;
+use blaze_entries::RangeEntry;
 use blaze_int::Integer;
 use blaze_int::compare::{is_below, lesser};
-use blaze_table::RangeEntry;
 use std::alloc::AllocError;
 
 /// A choice between the values of two streams at a key.

@@ -1,8 +1,8 @@
 //! A merge of two streams by a choice.
 ghost use Rattle.std.specs.Prelude.{◌≡◌, ◌≤ℤ◌, [], IfOk, OnOk};
 ghost use Rattle.std.specs.Option.{option_map};
-ghost use Rattle.blaze_table.specs.Chosen.{IsChosen};
-ghost use Rattle.blaze_table.specs.Entries.{shown_list};
+ghost use Rattle.blaze_entries.specs.Chosen.{IsChosen};
+ghost use Rattle.blaze_entries.specs.Entries.{shown_list};
 ghost use Rattle.blaze_streams.specs.Choosing.{PutsAlike};
 
 use crate::carrier::{HasValue, ValueCarrier};
@@ -11,8 +11,8 @@ use crate::lists::canon_map::CanonMapIter;
 use crate::merge::choice::Choice;
 use crate::merge::piece_list::PieceList;
 use crate::sorted_disjoint_map::SortedDisjointMap;
+use blaze_entries::RangeEntry;
 use blaze_int::Integer;
-use blaze_table::RangeEntry;
 use std::alloc::{AllocError, Global};
 use std::ops::RangeInclusive;
 

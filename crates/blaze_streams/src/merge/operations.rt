@@ -1,6 +1,6 @@
 //! Operations between many streams, each by an operation between two.
 ghost use Rattle.std.specs.Prelude.{◌≡◌, [], ◌∷◌, List, Option, None, Some, refl, is_some, IfOk};
-ghost use Rattle.blaze_table.specs.Entries.{SameOption};
+ghost use Rattle.blaze_entries.specs.Entries.{SameOption};
 ghost use Rattle.blaze_streams.specs.Many.{last_value, last_of_all, has_odd};
 ghost use Rattle.blaze_streams.specs.Merges.{GivesBoth};
 

@@ -1,6 +1,6 @@
 //! Lists to which pieces are appended.
 ghost use Rattle.std.specs.Prelude.{List, Some, OnOk};
-ghost use Rattle.blaze_table.specs.Entries.{Entry, shown_list};
+ghost use Rattle.blaze_entries.specs.Entries.{Entry, shown_list};
 ghost use Rattle.blaze_streams.specs.Choosing.{PutsAlike};
 ghost use Rattle.blaze_streams.specs.RangeLists.{shown_ranges};
 

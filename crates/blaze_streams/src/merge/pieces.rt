@@ -1,17 +1,17 @@
 //! Pieces of two streams: ranges of keys with the same choice.
 ghost use Rattle.std.specs.Prelude.{◌≡◌, None, IfOk, MatchOption, ℤ};
 ghost use Rattle.std.specs.Option.{option_map};
-ghost use Rattle.blaze_table.specs.Canonical.{IsCanonical};
-ghost use Rattle.blaze_table.specs.Chosen.{left_with_right};
-ghost use Rattle.blaze_table.specs.Entries.{at};
+ghost use Rattle.blaze_entries.specs.Canonical.{IsCanonical};
+ghost use Rattle.blaze_entries.specs.Chosen.{left_with_right};
+ghost use Rattle.blaze_entries.specs.Entries.{at};
 ghost use Rattle.blaze_streams.specs.Choosing.{IsTaken, IsTakenAlone};
 ghost use Rattle.blaze_streams.specs.Cursors.{first_key, lesser};
 
 use crate::carrier::ValueCarrier;
 use crate::cursor::Cursor;
 use crate::sorted_disjoint_map::SortedDisjointMap;
+use blaze_entries::RangeEntry;
 use blaze_int::{Integer, compare};
-use blaze_table::RangeEntry;
 use std::alloc::AllocError;
 
 /// Takes the part of a stream's first range below the first key of the other stream. The result has its first key, its

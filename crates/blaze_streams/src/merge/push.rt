@@ -1,7 +1,7 @@
 //! Ranges with values appended one by one.
 ghost use Rattle.std.specs.Prelude.{◌≡◌, ◌∷◌, ◌++◌, [], Some, true, OnOk, OnErr, MatchBool};
-ghost use Rattle.blaze_table.specs.Entries.{entry, shown_list};
-ghost use Rattle.blaze_table.specs.Splice.{glue};
+ghost use Rattle.blaze_entries.specs.Entries.{entry, shown_list};
+ghost use Rattle.blaze_entries.specs.Splice.{glue};
 ghost use Rattle.blaze_streams.specs.Choosing.{PutsAlike};
 ghost use Rattle.blaze_streams.specs.RangeLists.{shown_ranges};
 

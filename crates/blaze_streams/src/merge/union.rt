@@ -1,7 +1,7 @@
 //! Merges of two streams: the union, the symmetric difference and the intersection.
 ghost use Rattle.std.specs.Option.{option_xor};
 ghost use Rattle.std.specs.Prelude.{IfOk};
-ghost use Rattle.blaze_table.specs.Chosen.{right_first, left_with_right, IsChosen};
+ghost use Rattle.blaze_entries.specs.Chosen.{right_first, left_with_right, IsChosen};
 
 use crate::carrier::ValueCarrier;
 use crate::lists::canon_map::CanonMapIter;

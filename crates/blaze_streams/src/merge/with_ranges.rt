@@ -1,14 +1,14 @@
 //! A stream of ranges with values, limited to the keys of a set or to all other keys.
 ghost use Rattle.std.specs.Prelude.{IfOk};
-ghost use Rattle.blaze_table.specs.Chosen.{left_with_right, left_alone, IsChosen};
+ghost use Rattle.blaze_entries.specs.Chosen.{left_with_right, left_alone, IsChosen};
 
 use crate::carrier::ValueCarrier;
 use crate::lists::canon_map::CanonMapIter;
 use crate::merge::choice::{LeftAlone, LeftWithRight};
 use crate::merge::chosen::chosen_of;
 use crate::merge::with_unit::WithUnit;
-use crate::sorted_disjoint::SortedDisjoint;
 use crate::sorted_disjoint_map::SortedDisjointMap;
+use blaze_entries::SortedDisjoint;
 use blaze_int::Integer;
 use std::alloc::{AllocError, Global};
 

@@ -3,8 +3,8 @@ ghost use Rattle.std.specs.Prelude.{◌≡◌, refl};
 ghost use Rattle.std.specs.Iterator.{YieldsFirstBy, item_count};
 ghost use Rattle.blaze_streams.specs.Ranges.{shown_range};
 
-use crate::sorted_disjoint::SortedDisjoint;
 use crate::sorted_disjoint_map::SortedDisjointMap;
+use blaze_entries::SortedDisjoint;
 use blaze_int::Integer;
 use std::marker::PhantomData;
 use std::ops::RangeInclusive;

@@ -1,9 +1,9 @@
 //! The segments of two streams.
 ghost use Rattle.std.specs.Prelude.{◌≡◌, None, Some, IfOk, OnOk};
 ghost use Rattle.std.specs.Option.{option_map};
-ghost use Rattle.blaze_table.specs.Canonical.{IsCanonical};
-ghost use Rattle.blaze_table.specs.Entries.{at};
-ghost use Rattle.blaze_table.specs.Painted.{ClonesAreAlike};
+ghost use Rattle.blaze_entries.specs.Canonical.{IsCanonical};
+ghost use Rattle.blaze_entries.specs.Entries.{at};
+ghost use Rattle.blaze_entries.specs.Painted.{ClonesAreAlike};
 ghost use Rattle.blaze_streams.specs.Carried.{shown_pair};
 ghost use Rattle.blaze_streams.specs.Cursors.{first_key, steady_to, IsFirstOfBoth, Reaches, lesser};
 ghost use Rattle.blaze_streams.specs.Joins.{is_joined, IsCarriedJoin, IsLetGo, IsNotAsked, IsSegmentPut, IsSkipped};

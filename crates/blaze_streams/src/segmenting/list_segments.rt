@@ -3,7 +3,7 @@ ghost use Rattle.std.specs.Prelude.{◌≡◌, None, IfOk, IfSome, IfNone, nat_e
 ghost use Rattle.blaze_streams.specs.Segments.{numbered, all_numbered, AreInOrder, shown_segment};
 ghost use Rattle.blaze_streams.specs.Segments.{shown_segments, IsSegmentsOf};
 ghost use Rattle.blaze_streams.specs.Cursors.{AllCanonical, first_keys, IsNextSegment};
-ghost use Rattle.blaze_table.specs.Canonical.{IsCanonical};
+ghost use Rattle.blaze_entries.specs.Canonical.{IsCanonical};
 
 use crate::cursor::Cursor;
 use crate::lists::canon_map::CanonMapIter;

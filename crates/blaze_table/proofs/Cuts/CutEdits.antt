@@ -1,14 +1,10 @@
 -- A key is removed from the entry that contains it: the edits, what they require of the entry, and their result.
-use Rattle.blaze_table.proofs.Words.{◌≡◌, ℕ, Bool, ℤ, pos, ◌+ℤ◌, ◌-ℤ◌, ◌≤ℤ◌, ◌<ℤ◌, true, cond, List, [], ◌∷◌, ◌++◌, Option, Some, None, Result, Ok, Err, OnErr, refl, ◌∙◌, sym, subst, ap, arith, IsEquivalence, option_map, IsSome, IsSomeAnd, ints, by_lt_z, append_assoc, lt_true, lt_false, IsManyCloned, range_in, StartsAscend, last_below, entry_reaching, holder_of, start_at, with_entry, without, with_end, IsStartMoved, one_value, same_along, more_below, IsCanonical, IsAmongOthers, Entry, entry, at, entry_at, SameEntries, SameOption, ClonesAreAlike, before, after, IsBelow, IsListWithoutKey, IsKeyTaken, IsKeyCut, covered_keys, IsTable}
-use Rattle.blaze_table.proofs.Canonical.Counted.{overlap_whole}
-use Rattle.blaze_table.proofs.Canonical.Lookup.{IsAbove, at_over, at_before, entry_in, entry_over}
+use Rattle.blaze_table.proofs.Words.{◌≡◌, ℕ, Bool, ℤ, pos, ◌+ℤ◌, ◌-ℤ◌, ◌≤ℤ◌, ◌<ℤ◌, true, cond, List, [], ◌∷◌, ◌++◌, Option, Some, None, Result, Ok, Err, OnErr, refl, ◌∙◌, sym, subst, ap, arith, IsEquivalence, option_map, IsSome, IsSomeAnd, ints, by_lt_z, append_assoc, lt_true, lt_false, IsManyCloned, range_in, StartsAscend, last_below, entry_reaching, holder_of, start_at, with_entry, without, with_end, IsStartMoved, one_value, same_along, more_below, IsCanonical, IsAmongOthers, Entry, entry, at, entry_at, SameEntries, SameOption, ClonesAreAlike, before, after, IsBelow, IsListWithoutKey, IsKeyTaken, IsKeyCut, covered_keys, IsTable, overlap_whole, IsAbove, at_over, at_before, entry_in, entry_over, before_past, after_past, entries_themselves, before_cuts, before_ends, after_cuts, below_more}
 use Rattle.blaze_table.proofs.Cuts.Cutting.{after_whole, cut_content, cut_table, at_cut, covered_past, covered_fits}
 use Rattle.blaze_table.proofs.Cuts.Splits.{LastAt, last_at, no_last_from, parted, rest_canonical, ends_below, none_next}
 use Rattle.blaze_table.proofs.Neighbours.Growing.{last_there}
 use Rattle.blaze_table.proofs.Neighbours.Holders.{starts_behind, starts_over, with_entry-between, without-between}
 use Rattle.blaze_entries.proofs.EditLists.{end_put}
-use Rattle.blaze_table.proofs.Paints.Painted.{before_past, after_past, entries_themselves}
-use Rattle.blaze_table.proofs.Paints.Splices.{before_cuts, before_ends, after_cuts, below_more}
 
 module _ {V : Type 0} where
   -- the value at a key, after entries that end below it

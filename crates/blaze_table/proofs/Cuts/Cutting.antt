@@ -1,12 +1,5 @@
 -- A list without a range of keys, from its parts.
-use Rattle.blaze_table.proofs.Words.{option_or, ◌≡◌, ◌⊎◌, inl, inr, ℕ, ℤ, pos, ◌+ℤ◌, ◌≤ℤ◌, ◌<ℤ◌, Bool, false, cond, List, [], ◌∷◌, ◌++◌, Option, Some, None, refl, ◌∙◌, sym, ap, subst, arith, IsEquivalence, Contains, Contains-append_left, int_eq, ints, by_lt_z, and_left, eq_true, le_true, le_false, same_along, same_trans, same_or_right, Entry, at, SameOption, entry, IsCanonical, AreKeys, keys_in, before, after, glue, IsBelow, IsListWithoutRange, IsListWithoutKey, IsTableCut, overlap, covered_keys, cut_at, cut_range_at, IsRangeCut, IsTable, overlap_none}
-use Rattle.blaze_table.proofs.Canonical.Lookup.{IsAbove, above_rest, at_in, at_over, at_before, above_by}
-use Rattle.blaze_table.proofs.Canonical.RangeMaps.{range_map}
-use Rattle.blaze_table.proofs.Canonical.Unique.{back}
-use Rattle.blaze_table.proofs.Paints.Kept.{in_before}
-use Rattle.blaze_table.proofs.Paints.Splices.{by_before, after_skips, by_after, canonical_glue, canonical_before, canonical_after, at_glue, above_after, below_before, at-before_under, at-before_over, at-after_over, below_more}
-use Rattle.blaze_table.proofs.Paints.Painted.{entries_themselves, canonical_as, above_as, content_as}
-use Rattle.blaze_table.proofs.Canonical.Counted.{keys_apart, covered_none, overlap_most, keys_glue, are_keys_glue, are_keys_before, are_keys_after, are_keys_as, same_keys_in}
+use Rattle.blaze_table.proofs.Words.{option_or, ◌≡◌, ◌⊎◌, inl, inr, ℕ, ℤ, pos, ◌+ℤ◌, ◌≤ℤ◌, ◌<ℤ◌, Bool, false, cond, List, [], ◌∷◌, ◌++◌, Option, Some, None, refl, ◌∙◌, sym, ap, subst, arith, IsEquivalence, Contains, Contains-append_left, int_eq, ints, by_lt_z, and_left, eq_true, le_true, le_false, same_along, same_trans, same_or_right, Entry, at, SameOption, entry, IsCanonical, AreKeys, keys_in, before, after, glue, IsBelow, IsListWithoutRange, IsListWithoutKey, IsTableCut, overlap, covered_keys, cut_at, cut_range_at, IsRangeCut, IsTable, overlap_none, IsAbove, above_rest, at_in, at_over, at_before, above_by, range_map, back, in_before, by_before, after_skips, by_after, canonical_glue, canonical_before, canonical_after, at_glue, above_after, below_before, at-before_under, at-before_over, at-after_over, below_more, entries_themselves, canonical_as, above_as, content_as, keys_apart, covered_none, overlap_most, keys_glue, are_keys_glue, are_keys_before, are_keys_after, are_keys_as, same_keys_in}
 
 module _ {V : Type 0} (eq : V → V → Bool) where
   pub after_all : (k : ℤ) (es : List (Entry V)) → IsCanonical eq es → IsAbove k es → after k es ≡ es

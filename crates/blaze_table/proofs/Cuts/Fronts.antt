@@ -1,9 +1,6 @@
 -- The first key is removed from the first entry, given the result of the lookup.
-use Rattle.blaze_table.proofs.Words.{◌≡◌, ℤ, pos, ◌+ℤ◌, ◌<ℤ◌, Bool, false, cond, List, [], ◌∷◌, ◌++◌, Option, Some, None, refl, ◌∙◌, sym, subst, ap, arith, IsEquivalence, slice_get, option_map, int_eq, IsSome, ints, IsRangeCloned, IsManyCloned, StartsAscend, start_at, with_entry, IsFirstRemoved, RangeEntry, same_along, by_order, start_none, with_entry-first, IsCanonical, Entry, entry, SameEntries, ClonesAreAlike, after, IsKeyTaken}
-use Rattle.blaze_table.proofs.Canonical.Lookup.{at_in}
+use Rattle.blaze_table.proofs.Words.{◌≡◌, ℤ, pos, ◌+ℤ◌, ◌<ℤ◌, Bool, false, cond, List, [], ◌∷◌, ◌++◌, Option, Some, None, refl, ◌∙◌, sym, subst, ap, arith, IsEquivalence, slice_get, option_map, int_eq, IsSome, ints, IsRangeCloned, IsManyCloned, StartsAscend, start_at, with_entry, IsFirstRemoved, RangeEntry, same_along, by_order, start_none, with_entry-first, IsCanonical, Entry, entry, SameEntries, ClonesAreAlike, after, IsKeyTaken, at_in, entries_themselves, before_ends, after_cuts}
 use Rattle.blaze_table.proofs.Cuts.Cutting.{after_whole}
-use Rattle.blaze_table.proofs.Paints.Painted.{entries_themselves}
-use Rattle.blaze_table.proofs.Paints.Splices.{before_ends, after_cuts}
 
 -- a list after an insertion has a first entry
 pub first_there : {V : Type 0} (p : Entry V) (es new : List (Entry V)) → new ≡ with_entry p es → IsSome (slice_get new 0)

@@ -1,9 +1,7 @@
 -- A range of keys is removed, given the results of a walk without a value. What the edit requires of the list, and what
 -- it counts.
-use Rattle.blaze_table.proofs.Words.{◌≡◌, ℕ, ℤ, pos, ◌+ℤ◌, ◌≤ℤ◌, ◌<ℤ◌, Bool, true, false, cond, List, Option, Some, None, length, length-append, refl, ◌∙◌, subst, ap, arith, inl, inr, IsEquivalence, option_map, IfSome, IsSome, IsSomeAnd, int_lt, ints, lt_holds, not_both, CountedEntries, found_in, is_sought, range_in, shown_ends, shown_plan, StartsAscend, last_below, Plan, RangeEntry, IsCanonical, GoesOnAbove, IsEditPlan, Entry, tail_of, HasEditLookups, IsWalkOf, IsWorked, before, after, IsListWithoutRange, IsRangeTaken, IsTableCut, IsTable, IsCountedCut}
-use Rattle.blaze_table.proofs.Canonical.Counted.{keys_apart}
+use Rattle.blaze_table.proofs.Words.{◌≡◌, ℕ, ℤ, pos, ◌+ℤ◌, ◌≤ℤ◌, ◌<ℤ◌, Bool, true, false, cond, List, Option, Some, None, length, length-append, refl, ◌∙◌, subst, ap, arith, inl, inr, IsEquivalence, option_map, IfSome, IsSome, IsSomeAnd, int_lt, ints, lt_holds, not_both, CountedEntries, found_in, is_sought, range_in, shown_ends, shown_plan, StartsAscend, last_below, Plan, RangeEntry, IsCanonical, GoesOnAbove, IsEditPlan, Entry, tail_of, HasEditLookups, IsWalkOf, IsWorked, before, after, IsListWithoutRange, IsRangeTaken, IsTableCut, IsTable, IsCountedCut, keys_apart, length_as}
 use Rattle.blaze_table.proofs.Cuts.Cutting.{cut_table}
-use Rattle.blaze_table.proofs.Paints.Painted.{length_as}
 use Rattle.blaze_table.proofs.Walks.Found.{last_held}
 use Rattle.blaze_table.proofs.Walks.FewLooks.{counted}
 use Rattle.blaze_table.proofs.Walks.Plans.{place_is}

@@ -1,8 +1,7 @@
 -- The edits that split a list at a key.
-use Rattle.blaze_table.proofs.Words.{◌≡◌, Bool, ℤ, pos, ◌-ℤ◌, ◌≤ℤ◌, ◌<ℤ◌, true, List, [], ◌∷◌, ◌++◌, None, refl, ◌∙◌, sym, subst, ap, arith, IsEquivalence, Result, Ok, Err, IfOk, OnOk, IsSome, int_lt, int_le, option_map, ints, append-nil, append_assoc, filter-append, CountedEntries, uncounted, range_in, StartsAscend, below, from, last_below, start_at, with_entry, without, with_end, IsCloneInserted, StartsBelow, below_all, below_none, below_skips, from_all, from_none, from_takes, more_below, none_from_map, Entry, entry, IsCanonical, ClonesAreAlike, IsBelow, IsSplitOf}
+use Rattle.blaze_table.proofs.Words.{◌≡◌, Bool, ℤ, pos, ◌-ℤ◌, ◌≤ℤ◌, ◌<ℤ◌, true, List, [], ◌∷◌, ◌++◌, None, refl, ◌∙◌, sym, subst, ap, arith, IsEquivalence, Result, Ok, Err, IfOk, OnOk, IsSome, int_lt, int_le, option_map, ints, append-nil, append_assoc, filter-append, CountedEntries, uncounted, range_in, StartsAscend, below, from, last_below, start_at, with_entry, without, with_end, IsCloneInserted, StartsBelow, below_all, below_none, below_skips, from_all, from_none, from_takes, more_below, none_from_map, Entry, entry, IsCanonical, ClonesAreAlike, IsBelow, IsSplitOf, below_more}
 use Rattle.blaze_table.proofs.Neighbours.Holders.{Holder, is_holder, put_inside, starts_behind, end_moved}
 use Rattle.blaze_table.proofs.Paints.Placing.{put_back, put_there}
-use Rattle.blaze_table.proofs.Paints.Splices.{below_more}
 use Rattle.blaze_table.proofs.Cuts.Splits.{no_last, no_last_from}
 use Rattle.blaze_table.proofs.Cuts.CutEdits.{above_from}
 use Rattle.blaze_table.proofs.Cuts.Splitting.{split_here, split_between}

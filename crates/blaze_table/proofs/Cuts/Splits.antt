@@ -1,7 +1,5 @@
 -- Lists whose starts ascend, split at a key.
-use Rattle.blaze_table.proofs.Words.{◌≡◌, ℤ, pos, ◌+ℤ◌, ◌≤ℤ◌, ◌<ℤ◌, Bool, cond, List, [], ◌∷◌, ◌++◌, Option, Some, None, refl, ◌∙◌, sym, subst, ap, arith, IsSome, int_le, last_or, ints, by_lt_z, filter-append, StartsAscend, below, from, first_entry, last_below, first_from, start_at, by_order, start_none, StartsBelow, below_takes, from_takes, from_skips, below_none, from_all, from_none, more_below, Entry, entry, IsApart, IsCanonical, after, IsBelow}
-use Rattle.blaze_table.proofs.Paints.Splices.{after_skips, after_cuts, after_keeps}
-use Rattle.blaze_table.proofs.Paints.Painted.{after_past}
+use Rattle.blaze_table.proofs.Words.{◌≡◌, ℤ, pos, ◌+ℤ◌, ◌≤ℤ◌, ◌<ℤ◌, Bool, cond, List, [], ◌∷◌, ◌++◌, Option, Some, None, refl, ◌∙◌, sym, subst, ap, arith, IsSome, int_le, last_or, ints, by_lt_z, filter-append, StartsAscend, below, from, first_entry, last_below, first_from, start_at, by_order, start_none, StartsBelow, below_takes, from_takes, from_skips, below_none, from_all, from_none, more_below, Entry, entry, IsApart, IsCanonical, after, IsBelow, after_skips, after_cuts, after_keeps, after_past}
 
 pub some_of : {X : Type 0} (o : Option X) → IsSome o → (x : X) × (o ≡ Some x)
 some_of None h = cc

@@ -1,10 +1,5 @@
 -- The parts of a list below a key and from it on.
-use Rattle.blaze_table.proofs.Words.{◌≡◌, ℕ, ℤ, pos, ◌+ℤ◌, ◌-ℤ◌, ◌≤ℤ◌, ◌<ℤ◌, Bool, true, cond, List, [], ◌∷◌, ◌++◌, None, refl, ◌∙◌, sym, ap, subst, arith, IsEquivalence, ints, by_lt_z, append-nil, lt_true, lt_false, le_true, le_false, same_along, same_itself, Entry, at, SameEntries, entry, IsCanonical, AreKeys, keys_in, before, after, IsBelow, IsSplitOf, IsListSplit, below_at, from_at, IsTable}
-use Rattle.blaze_table.proofs.Canonical.Lookup.{IsAbove, IsAbove-from_apart, at_before}
-use Rattle.blaze_table.proofs.Canonical.Unique.{back}
-use Rattle.blaze_table.proofs.Paints.Splices.{by_before, by_after, before_cuts, after_skips, after_cuts, canonical_before, canonical_after, above_after, at-before_under, at-before_over, at-after_over}
-use Rattle.blaze_table.proofs.Paints.Painted.{canonical_as, content_as, before_past, entries_themselves}
-use Rattle.blaze_table.proofs.Canonical.Counted.{before_none, are_keys_before, are_keys_after, are_keys_as, same_keys_in}
+use Rattle.blaze_table.proofs.Words.{◌≡◌, ℕ, ℤ, pos, ◌+ℤ◌, ◌-ℤ◌, ◌≤ℤ◌, ◌<ℤ◌, Bool, true, cond, List, [], ◌∷◌, ◌++◌, None, refl, ◌∙◌, sym, ap, subst, arith, IsEquivalence, ints, by_lt_z, append-nil, lt_true, lt_false, le_true, le_false, same_along, same_itself, Entry, at, SameEntries, entry, IsCanonical, AreKeys, keys_in, before, after, IsBelow, IsSplitOf, IsListSplit, below_at, from_at, IsTable, IsAbove, IsAbove-from_apart, at_before, back, by_before, by_after, before_cuts, after_skips, after_cuts, canonical_before, canonical_after, above_after, at-before_under, at-before_over, at-after_over, canonical_as, content_as, before_past, entries_themselves, before_none, are_keys_before, are_keys_after, are_keys_as, same_keys_in}
 
 module _ {V : Type 0} (eq : V → V → Bool) where
   -- the two parts have all the keys

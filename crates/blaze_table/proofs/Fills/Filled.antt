@@ -1,6 +1,5 @@
 -- The result of a fill, key by key.
-use Rattle.blaze_table.proofs.Words.{option_or, ◌≡◌, ℤ, ◌≤ℤ◌, ◌<ℤ◌, Bool, cond, List, Option, Some, None, refl, ◌∙◌, sym, ap, IsSome, IsEquivalence, same_along, same_itself, or_none, Entry, entry, at, IsRangeMap, filled_content, IsFilled, IsMappedFrom}
-use Rattle.blaze_table.proofs.Canonical.Lookup.{by_place, holds_in, holds_under, holds_over}
+use Rattle.blaze_table.proofs.Words.{option_or, ◌≡◌, ℤ, ◌≤ℤ◌, ◌<ℤ◌, Bool, cond, List, Option, Some, None, refl, ◌∙◌, sym, ap, IsSome, IsEquivalence, same_along, same_itself, or_none, Entry, entry, at, IsRangeMap, filled_content, IsFilled, IsMappedFrom, by_place, holds_in, holds_under, holds_over}
 use Rattle.blaze_table.proofs.Fills.KeptEntries.{all_kept}
 
 module _ {V : Type 0} where

@@ -1,8 +1,5 @@
 -- The gaps of a range get a value one by one.
-use Rattle.blaze_table.proofs.Words.{none_is_not, option_or, ◌≡◌, ℕ, ℤ, pos, ◌+ℤ◌, ◌-ℤ◌, ◌≤ℤ◌, ◌<ℤ◌, Bool, true, false, cond, List, [], Option, Some, None, refl, ◌∙◌, sym, ap, subst, arith, inl, inr, ◌↔◌, IsSome, IsTrue, IsEquivalence, Contains, ints, by_lt_z, same_along, same_itself, same_trans, some_of_same, none_of_same, AreKeys, IsCanonical, Entry, entry, at, holds, SameOption, SameContent, filled_content, AreStartsKept, IsFilled, IsMappedFrom, IsFirstGap, never_equal, IsBeside, IsFilledBut, IsFilling, IsGapFilled, IsJoinedBut, IsOrdered, IsOrderedTable, IsClearFrom, painted_content}
-use Rattle.blaze_table.proofs.Canonical.Counted.{keys_among}
-use Rattle.blaze_table.proofs.Canonical.Lookup.{by_place, holds_in, holds_under, holds_over}
-use Rattle.blaze_table.proofs.Canonical.Runs.{one_per_run}
+use Rattle.blaze_table.proofs.Words.{none_is_not, option_or, ◌≡◌, ℕ, ℤ, pos, ◌+ℤ◌, ◌-ℤ◌, ◌≤ℤ◌, ◌<ℤ◌, Bool, true, false, cond, List, [], Option, Some, None, refl, ◌∙◌, sym, ap, subst, arith, inl, inr, ◌↔◌, IsSome, IsTrue, IsEquivalence, Contains, ints, by_lt_z, same_along, same_itself, same_trans, some_of_same, none_of_same, AreKeys, IsCanonical, Entry, entry, at, holds, SameOption, SameContent, filled_content, AreStartsKept, IsFilled, IsMappedFrom, IsFirstGap, never_equal, IsBeside, IsFilledBut, IsFilling, IsGapFilled, IsJoinedBut, IsOrdered, IsOrderedTable, IsClearFrom, painted_content, keys_among, by_place, holds_in, holds_under, holds_over, one_per_run}
 use Rattle.blaze_table.proofs.Fills.Filled.{filled_in, filled_under, filled_over, filled_held, or_some}
 use Rattle.blaze_table.proofs.Fills.Gaps.{joined_more, new_over}
 use Rattle.blaze_table.proofs.Fills.Joints.{run_start_as}

@@ -1,6 +1,5 @@
 -- The joints of a list after one more gap has a separate entry.
-use Rattle.blaze_table.proofs.Words.{none_is_not, by_bool, not_both, ◌≡◌, ℤ, pos, ◌+ℤ◌, ◌-ℤ◌, ◌≤ℤ◌, ◌<ℤ◌, Bool, true, false, cond, List, Option, Some, None, refl, ◌∙◌, sym, subst, ap, arith, inl, inr, ◌⊎◌, IsSome, IsEquivalence, Contains, ints, by_lt_z, same_along, same_back, some_of_same, IsRunStart, Entry, entry, at, SameOption, IsBeside, IsJoinedBut, IsJoint, IsNoted, IsClearFrom}
-use Rattle.blaze_table.proofs.Canonical.Lookup.{holds_in, holds_under, holds_over}
+use Rattle.blaze_table.proofs.Words.{none_is_not, by_bool, not_both, ◌≡◌, ℤ, pos, ◌+ℤ◌, ◌-ℤ◌, ◌≤ℤ◌, ◌<ℤ◌, Bool, true, false, cond, List, Option, Some, None, refl, ◌∙◌, sym, subst, ap, arith, inl, inr, ◌⊎◌, IsSome, IsEquivalence, Contains, ints, by_lt_z, same_along, same_back, some_of_same, IsRunStart, Entry, entry, at, SameOption, IsBeside, IsJoinedBut, IsJoint, IsNoted, IsClearFrom, holds_in, holds_under, holds_over}
 use Rattle.blaze_table.proofs.Fills.Puts.{IsPut}
 
 module _ {V : Type 0} (eq : V → V → Bool) (laws : IsEquivalence eq) (low high a b : ℤ) (w : V) (cur new : List (Entry V)) (order : a ≤ℤ b) (clear : IsClearFrom (at cur) a b) (p : IsPut low high (entry a b w) cur new) where

@@ -1,6 +1,5 @@
 -- Keys that have values, entry by entry.
-use Rattle.blaze_table.proofs.Words.{nat_of, ◌≡◌, ◌<◌, ℤ, ◌-ℤ◌, ◌≤ℤ◌, ◌<ℤ◌, Bool, true, false, cond, List, [], ◌∷◌, Some, refl, ◌∙◌, sym, subst, arith, IsSome, ints, nat_of-pos, Entry, at, entry_at, holds, IsMappedFrom}
-use Rattle.blaze_table.proofs.Canonical.Lookup.{by_place, entry_in, entry_under, entry_over, holds_in}
+use Rattle.blaze_table.proofs.Words.{nat_of, ◌≡◌, ◌<◌, ℤ, ◌-ℤ◌, ◌≤ℤ◌, ◌<ℤ◌, Bool, true, false, cond, List, [], ◌∷◌, Some, refl, ◌∙◌, sym, subst, arith, IsSome, ints, nat_of-pos, Entry, at, entry_at, holds, IsMappedFrom, by_place, entry_in, entry_under, entry_over, holds_in}
 
 module _ {V : Type 0} where
   -- the list has a value at each key of one of its entries

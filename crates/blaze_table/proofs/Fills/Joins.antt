@@ -1,11 +1,9 @@
 -- An entry is joined with the previous one, which it touches and whose value is equal.
-use Rattle.blaze_table.proofs.Words.{none_is_not, ◌≡◌, ℤ, pos, ◌+ℤ◌, ◌-ℤ◌, ◌≤ℤ◌, ◌<ℤ◌, Bool, cond, true, false, List, [], ◌∷◌, ◌++◌, Option, Some, None, option_map, refl, ◌∙◌, sym, subst, ap, arith, inl, inr, IsSome, ints, by_lt_z, append_assoc, IsEquivalence, range_in, StartsAscend, last_below, start_at, with_end, without, none_from_map, same_along, same_back, same_itself, some_of_same, by_order, start_none, StartsBelow, more_below, AreKeys, HasStart, Entry, entry, at, entry_at, holds, SameOption, SameContent, IsKeptIn, never_equal, IsJoint, IsJoinedAt, IsOrdered, IsLastBelow}
-use Rattle.blaze_table.proofs.Canonical.Lookup.{IsAbove, IsAbove-from_apart, at_in, at_under, at_over, by_place, value-entry_at}
+use Rattle.blaze_table.proofs.Words.{none_is_not, ◌≡◌, ℤ, pos, ◌+ℤ◌, ◌-ℤ◌, ◌≤ℤ◌, ◌<ℤ◌, Bool, cond, true, false, List, [], ◌∷◌, ◌++◌, Option, Some, None, option_map, refl, ◌∙◌, sym, subst, ap, arith, inl, inr, IsSome, ints, by_lt_z, append_assoc, IsEquivalence, range_in, StartsAscend, last_below, start_at, with_end, without, none_from_map, same_along, same_back, same_itself, some_of_same, by_order, start_none, StartsBelow, more_below, AreKeys, HasStart, Entry, entry, at, entry_at, holds, SameOption, SameContent, IsKeptIn, never_equal, IsJoint, IsJoinedAt, IsOrdered, IsLastBelow, IsAbove, IsAbove-from_apart, at_in, at_under, at_over, by_place, value-entry_at, by_first, first_in, later_in}
 use Rattle.blaze_table.proofs.Cuts.Splits.{no_last_from}
 use Rattle.blaze_table.proofs.Neighbours.Holders.{Holder, entry_containing, there, end_moved, without-between, starts_behind}
 use Rattle.blaze_table.proofs.Neighbours.NextEntries.{holding_none, holding_some, holding_not}
 use Rattle.blaze_entries.proofs.EditLists.{start_skips}
-use Rattle.blaze_table.proofs.Paints.Kept.{by_first, first_in, later_in}
 use Rattle.blaze_table.proofs.Fills.KeptEntries.{kept_first, kept_later, kept_same}
 use Rattle.blaze_table.proofs.Fills.Upwards.{none_under}
 use Rattle.blaze_table.proofs.Fills.Ordered.{apart_by, start_above}

@@ -1,7 +1,5 @@
 -- Entries that remain after a fill, with their very values.
-use Rattle.blaze_table.proofs.Words.{◌≡◌, ℤ, pos, ◌+ℤ◌, ◌≤ℤ◌, ◌<ℤ◌, Bool, List, [], ◌∷◌, Option, Some, refl, ◌∙◌, sym, subst, arith, IsEquivalence, Contains, ints, by_lt_z, same_along, same_back, same_trans, IsCanonical, Entry, entry, at, SameOption, IsKeptIn, AreStartsKept, AreKept}
-use Rattle.blaze_table.proofs.Canonical.Lookup.{IsAbove-from_apart, at_in, at_over}
-use Rattle.blaze_table.proofs.Paints.Kept.{by_first, same_in, later_in, over_in}
+use Rattle.blaze_table.proofs.Words.{◌≡◌, ℤ, pos, ◌+ℤ◌, ◌≤ℤ◌, ◌<ℤ◌, Bool, List, [], ◌∷◌, Option, Some, refl, ◌∙◌, sym, subst, arith, IsEquivalence, Contains, ints, by_lt_z, same_along, same_back, same_trans, IsCanonical, Entry, entry, at, SameOption, IsKeptIn, AreStartsKept, AreKept, IsAbove-from_apart, at_in, at_over, by_first, same_in, later_in, over_in}
 
 module _ {V : Type 0} where
   none_in : {P : Type 0} (e : Entry V) → Contains [] e → P

@@ -1,6 +1,5 @@
 -- Ordered lists, whose touching entries may have equal values.
-use Rattle.blaze_table.proofs.Words.{none_is_not, ◌≡◌, ℕ, ℤ, pos, ◌-ℤ◌, ◌<ℤ◌, Bool, true, false, List, [], ◌∷◌, Option, Some, None, refl, ◌∙◌, sym, subst, arith, inl, inr, IsSome, ints, by_lt_z, same_along, IsApart, IsCanonical, IsRunStart, HasStart, Entry, at, SameOption, never_equal, IsOrdered, IsOrderedTable, IsTable}
-use Rattle.blaze_table.proofs.Canonical.Lookup.{IsAbove, IsAbove-from_apart, at_in, at_over, at_before}
+use Rattle.blaze_table.proofs.Words.{none_is_not, ◌≡◌, ℕ, ℤ, pos, ◌-ℤ◌, ◌<ℤ◌, Bool, true, false, List, [], ◌∷◌, Option, Some, None, refl, ◌∙◌, sym, subst, arith, inl, inr, IsSome, ints, by_lt_z, same_along, IsApart, IsCanonical, IsRunStart, HasStart, Entry, at, SameOption, never_equal, IsOrdered, IsOrderedTable, IsTable, IsAbove, IsAbove-from_apart, at_in, at_over, at_before}
 
 not_true : (b : Bool) → (b ≡ true → ⊥) → b ≡ false
 not_true true h = absurd (h refl)

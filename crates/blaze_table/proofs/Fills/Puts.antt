@@ -1,7 +1,5 @@
 -- An entry is inserted into a gap of an ordered list.
-use Rattle.blaze_table.proofs.Words.{◌≡◌, ℤ, pos, ◌+ℤ◌, ◌-ℤ◌, ◌≤ℤ◌, ◌<ℤ◌, Bool, cond, true, false, List, [], ◌∷◌, Option, Some, None, refl, ◌∙◌, sym, ap, arith, inl, inr, ◌⊎◌, Contains, ints, by_lt_z, start_at, with_entry, by_order, AreKeys, HasStart, keys_in, Entry, at, holds, never_equal, IsOrdered, IsClearFrom, painted_content}
-use Rattle.blaze_table.proofs.Canonical.Lookup.{IsAbove, IsAbove-from_apart, at_in, at_under, at_over, holds_under, holds_over, above_by}
-use Rattle.blaze_table.proofs.Paints.Kept.{by_first, same_in, later_in}
+use Rattle.blaze_table.proofs.Words.{◌≡◌, ℤ, pos, ◌+ℤ◌, ◌-ℤ◌, ◌≤ℤ◌, ◌<ℤ◌, Bool, cond, true, false, List, [], ◌∷◌, Option, Some, None, refl, ◌∙◌, sym, ap, arith, inl, inr, ◌⊎◌, Contains, ints, by_lt_z, start_at, with_entry, by_order, AreKeys, HasStart, keys_in, Entry, at, holds, never_equal, IsOrdered, IsClearFrom, painted_content, IsAbove, IsAbove-from_apart, at_in, at_under, at_over, holds_under, holds_over, above_by, by_first, same_in, later_in}
 use Rattle.blaze_table.proofs.Fills.Ordered.{apart_by}
 
 module _ {V : Type 0} (low high : ℤ) (p : Entry V) where

@@ -1,7 +1,5 @@
 -- A walk up the entries of an ordered list: the keys that have values so far, and the first gap.
-use Rattle.blaze_table.proofs.Words.{◌≡◌, ℤ, pos, ◌+ℤ◌, ◌-ℤ◌, ◌≤ℤ◌, ◌<ℤ◌, Bool, true, false, List, [], ◌∷◌, Option, Some, None, refl, ◌∙◌, sym, subst, ap, arith, inl, inr, ◌⊎◌, ◌↔◌, IsSome, IsTrue, ints, by_lt_z, same_along, AreKeys, ending_from, Entry, at, SameOption, IsMappedFrom, never_equal, IsGapEnd, IsNextGap, IsOrdered}
-use Rattle.blaze_table.proofs.Canonical.Lookup.{IsAbove, IsAbove-from_apart, at_in, at_under, at_over, at_before, by_place}
-use Rattle.blaze_table.proofs.Neighbours.Ending.{ending_all, ending_skips, ending_takes}
+use Rattle.blaze_table.proofs.Words.{◌≡◌, ℤ, pos, ◌+ℤ◌, ◌-ℤ◌, ◌≤ℤ◌, ◌<ℤ◌, Bool, true, false, List, [], ◌∷◌, Option, Some, None, refl, ◌∙◌, sym, subst, ap, arith, inl, inr, ◌⊎◌, ◌↔◌, IsSome, IsTrue, ints, by_lt_z, same_along, AreKeys, ending_from, Entry, at, SameOption, IsMappedFrom, never_equal, IsGapEnd, IsNextGap, IsOrdered, IsAbove, IsAbove-from_apart, at_in, at_under, at_over, at_before, by_place, ending_all, ending_skips, ending_takes}
 
 module _ {V : Type 0} where
   -- the first entry ends at k or above

@@ -1,6 +1,5 @@
 -- The gap between two neighbours.
-use Rattle.blaze_table.proofs.Words.{◌≡◌, ℤ, pos, ◌+ℤ◌, ◌-ℤ◌, ◌≤ℤ◌, ◌<ℤ◌, Bool, cond, List, [], ◌∷◌, ◌++◌, Option, Some, None, refl, ◌∙◌, sym, ap, subst, arith, inl, inr, int_lt, IsSome, ◌⊎◌, find, ints, by_lt_z, lt_true, lt_false, StartsAscend, last_below, Entry, at, IsCanonical, IsGap, IsClearFrom, IsBelow}
-use Rattle.blaze_table.proofs.Canonical.Lookup.{at_in, at_under, at_over}
+use Rattle.blaze_table.proofs.Words.{◌≡◌, ℤ, pos, ◌+ℤ◌, ◌-ℤ◌, ◌≤ℤ◌, ◌<ℤ◌, Bool, cond, List, [], ◌∷◌, ◌++◌, Option, Some, None, refl, ◌∙◌, sym, ap, subst, arith, inl, inr, int_lt, IsSome, ◌⊎◌, find, ints, by_lt_z, lt_true, lt_false, StartsAscend, last_below, Entry, at, IsCanonical, IsGap, IsClearFrom, IsBelow, at_in, at_under, at_over}
 use Rattle.blaze_table.proofs.Neighbours.NextEntries.{last, front_ends}
 use Rattle.blaze_table.proofs.Cuts.Splits.{LastAt, no_last_from, canonical_part}
 

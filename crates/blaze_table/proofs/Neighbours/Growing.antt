@@ -1,7 +1,5 @@
 -- The last entry that starts below a key: found by its start, and shortened below the key.
-use Rattle.blaze_table.proofs.Words.{◌≡◌, ℤ, pos, ◌-ℤ◌, ◌≤ℤ◌, ◌<ℤ◌, Bool, List, [], ◌∷◌, ◌++◌, Option, Some, None, refl, ◌∙◌, sym, ap, arith, int_lt, int_le, option_map, ints, subst, append-nil, append_assoc, filter-append, shown_found, range_in, shown_ends, RangeEntry, StartsAscend, below, from, last_below, start_at, with_end, by_order, StartsBelow, below_takes, below_skips, below_all, below_none, from_skips, from_none, from_all, more_below, halves, Entry, entry, IsCanonical, IsPredecessor, before, IsBelow}
-use Rattle.blaze_table.proofs.Paints.Splices.{before_cuts, before_keeps, below_more}
-use Rattle.blaze_table.proofs.Paints.Painted.{before_past}
+use Rattle.blaze_table.proofs.Words.{◌≡◌, ℤ, pos, ◌-ℤ◌, ◌≤ℤ◌, ◌<ℤ◌, Bool, List, [], ◌∷◌, ◌++◌, Option, Some, None, refl, ◌∙◌, sym, ap, arith, int_lt, int_le, option_map, ints, subst, append-nil, append_assoc, filter-append, shown_found, range_in, shown_ends, RangeEntry, StartsAscend, below, from, last_below, start_at, with_end, by_order, StartsBelow, below_takes, below_skips, below_all, below_none, from_skips, from_none, from_all, more_below, halves, Entry, entry, IsCanonical, IsPredecessor, before, IsBelow, before_cuts, before_keeps, below_more, before_past}
 use Rattle.blaze_table.proofs.Cuts.Splits.{LastAt, last_at, no_last, ends_below}
 use Rattle.blaze_entries.proofs.EditLists.{end_put}
 

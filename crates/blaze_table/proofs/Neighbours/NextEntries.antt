@@ -1,6 +1,5 @@
 -- The entries at a key and next to it, by the starts near the key.
-use Rattle.blaze_table.proofs.Words.{◌≡◌, ℤ, pos, ◌+ℤ◌, ◌≤ℤ◌, ◌<ℤ◌, Bool, true, false, cond, List, [], ◌∷◌, ◌++◌, Option, Some, None, refl, ◌∙◌, sym, ap, subst, arith, int_lt, int_le, find, reverse, filter, last_or, option_or, ints, reverse-append, append-nil, find-append, filter-append, lt_true, lt_false, StartsAscend, below, first_entry, last_below, first_from, below_all, below_none, Entry, entry_at, IsCanonical, IsBelow}
-use Rattle.blaze_table.proofs.Canonical.Lookup.{entry_in, entry_under, entry_over}
+use Rattle.blaze_table.proofs.Words.{◌≡◌, ℤ, pos, ◌+ℤ◌, ◌≤ℤ◌, ◌<ℤ◌, Bool, true, false, cond, List, [], ◌∷◌, ◌++◌, Option, Some, None, refl, ◌∙◌, sym, ap, subst, arith, int_lt, int_le, find, reverse, filter, last_or, option_or, ints, reverse-append, append-nil, find-append, filter-append, lt_true, lt_false, StartsAscend, below, first_entry, last_below, first_from, below_all, below_none, Entry, entry_at, IsCanonical, IsBelow, entry_in, entry_under, entry_over}
 use Rattle.blaze_table.proofs.Cuts.Splits.{LastAt, last_at, no_last_from, ends_below, canonical_part}
 
 takes : {X : Type 0} (b : Bool) (x y : X) → b ≡ true → cond b x y ≡ x

@@ -1,8 +1,6 @@
 -- Whether a range is inside an entry with an equal value, by the entry that starts at the range or below it.
-use Rattle.blaze_table.proofs.Words.{◌≡◌, ◌+◌, ◌≤◌, ℤ, pos, ◌+ℤ◌, ◌≤ℤ◌, ◌<ℤ◌, Bool, true, false, List, [], ◌∷◌, ◌++◌, length, Option, Some, None, refl, ◌∙◌, sym, subst, ap, arith, inl, inr, ◌↔◌, int_le, last_or, option_map, option_or, ints, and_parts, and_from, le_true, le_holds, not_both, found_in, Seen, StartsAscend, below, last_below, start_at, by_order, start_none, below_none, below_takes, Entry, IsCanonical, IsInside, IsPlanOf, reaches, before, after, IsBelow}
+use Rattle.blaze_table.proofs.Words.{◌≡◌, ◌+◌, ◌≤◌, ℤ, pos, ◌+ℤ◌, ◌≤ℤ◌, ◌<ℤ◌, Bool, true, false, List, [], ◌∷◌, ◌++◌, length, Option, Some, None, refl, ◌∙◌, sym, subst, ap, arith, inl, inr, ◌↔◌, int_le, last_or, option_map, option_or, ints, and_parts, and_from, le_true, le_holds, not_both, found_in, Seen, StartsAscend, below, last_below, start_at, by_order, start_none, below_none, below_takes, Entry, IsCanonical, IsInside, IsPlanOf, reaches, before, after, IsBelow, IsAbove-from_apart, above_by, by_after, before_keeps, after_skips}
 use Rattle.blaze_table.proofs.Paints.Inside.{inside_above}
-use Rattle.blaze_table.proofs.Canonical.Lookup.{IsAbove-from_apart, above_by}
-use Rattle.blaze_table.proofs.Paints.Splices.{by_after, before_keeps, after_skips}
 use Rattle.blaze_table.proofs.Cuts.Splits.{last_at, no_last_from, ends_below}
 use Rattle.blaze_table.proofs.Paints.Widened.{after_over}
 

@@ -1,6 +1,5 @@
 -- The edits of a paint in place, one after another.
-use Rattle.blaze_table.proofs.Words.{◌≡◌, ℤ, pos, ◌+ℤ◌, ◌-ℤ◌, ◌≤ℤ◌, ◌<ℤ◌, Bool, List, [], ◌∷◌, ◌++◌, length, Option, Some, None, refl, ◌∙◌, sym, subst, ap, arith, int_lt, int_le, option_map, ints, by_lt_z, append_assoc, append-nil, filter-append, Contains, Contains-append_right, StartsAscend, below, from, last_below, start_at, with_end, StartsBelow, below_takes, from_skips, below_all, below_none, from_none, more_below, starts_below, halves, range_in, shown_ends, RangeEntry, IsPredecessor, Entry, entry, IsCanonical, inner_entries, AreOtherEntriesKept, IsEntrySet, IsEntryBetween, IsEntryExtended, before, IsRangeTaken}
-use Rattle.blaze_table.proofs.Paints.Splices.{by_before, before_ends, before_keeps, before_cuts}
+use Rattle.blaze_table.proofs.Words.{◌≡◌, ℤ, pos, ◌+ℤ◌, ◌-ℤ◌, ◌≤ℤ◌, ◌<ℤ◌, Bool, List, [], ◌∷◌, ◌++◌, length, Option, Some, None, refl, ◌∙◌, sym, subst, ap, arith, int_lt, int_le, option_map, ints, by_lt_z, append_assoc, append-nil, filter-append, Contains, Contains-append_right, StartsAscend, below, from, last_below, start_at, with_end, StartsBelow, below_takes, from_skips, below_all, below_none, from_none, more_below, starts_below, halves, range_in, shown_ends, RangeEntry, IsPredecessor, Entry, entry, IsCanonical, inner_entries, AreOtherEntriesKept, IsEntrySet, IsEntryBetween, IsEntryExtended, before, IsRangeTaken, by_before, before_ends, before_keeps, before_cuts}
 use Rattle.blaze_table.proofs.Cuts.Splits.{last_at, from_at}
 use Rattle.blaze_table.proofs.Neighbours.Growing.{last_there, below_last, front_last}
 use Rattle.blaze_entries.proofs.EditLists.{end_put}

@@ -1,6 +1,5 @@
 -- A paint inside an entry with an equal value changes nothing.
-use Rattle.blaze_table.proofs.Words.{ℤ, ◌≤ℤ◌, ◌<ℤ◌, Bool, List, [], ◌∷◌, length, Some, refl, sym, ap, arith, inl, inr, IsEquivalence, ints, same_along, same_itself, Entry, at, SameOption, IsCanonical, IsInside, IsListPainted}
-use Rattle.blaze_table.proofs.Canonical.Lookup.{IsAbove, IsAbove-from_apart, at_in, at_over, by_place, holds_in, holds_under, holds_over}
+use Rattle.blaze_table.proofs.Words.{ℤ, ◌≤ℤ◌, ◌<ℤ◌, Bool, List, [], ◌∷◌, length, Some, refl, sym, ap, arith, inl, inr, IsEquivalence, ints, same_along, same_itself, Entry, at, SameOption, IsCanonical, IsInside, IsListPainted, IsAbove, IsAbove-from_apart, at_in, at_over, by_place, holds_in, holds_under, holds_over}
 
 module _ {V : Type 0} (eq : V → V → Bool) (l h : ℤ) (v : V) where
   pub inside_above : (b : ℤ) (es : List (Entry V)) → IsCanonical eq es → IsAbove b es → IsInside eq l h v es → b <ℤ l

@@ -1,10 +1,7 @@
 -- The inserts of an edit, over plain lists.
-use Rattle.blaze_table.proofs.Words.{◌≡◌, ℤ, pos, ◌+ℤ◌, ◌-ℤ◌, ◌≤ℤ◌, ◌<ℤ◌, Bool, true, false, cond, List, [], ◌∷◌, Option, Some, None, refl, ◌∙◌, sym, subst, ap, arith, ⊎_elim, IsSome, IfSome, IsSomeAnd, Contains, last_or, option_map, int_eq, IsEquivalence, ints, by_lt_z, shown_ends, below, from, last_below, start_at, with_entry, without, with_end_value, IsStartMoved, IsFrontReplaced, Plan, RangeEntry, by_order, one_value, below_takes, below_skips, Entry, entry, SameEntries, IsCanonical, HasRoom, IsLikeTail, IsEditPlan, IsTailSplit, IsTail, IsEntryAcross, AreOtherEntriesKept, IsEntrySet, after, IsSameAbove}
+use Rattle.blaze_table.proofs.Words.{◌≡◌, ℤ, pos, ◌+ℤ◌, ◌-ℤ◌, ◌≤ℤ◌, ◌<ℤ◌, Bool, true, false, cond, List, [], ◌∷◌, Option, Some, None, refl, ◌∙◌, sym, subst, ap, arith, ⊎_elim, IsSome, IfSome, IsSomeAnd, Contains, last_or, option_map, int_eq, IsEquivalence, ints, by_lt_z, shown_ends, below, from, last_below, start_at, with_entry, without, with_end_value, IsStartMoved, IsFrontReplaced, Plan, RangeEntry, by_order, one_value, below_takes, below_skips, Entry, entry, SameEntries, IsCanonical, HasRoom, IsLikeTail, IsEditPlan, IsTailSplit, IsTail, IsEntryAcross, AreOtherEntriesKept, IsEntrySet, after, IsSameAbove, IsAbove, IsAbove-from_apart, in_from, later_in, entries_themselves}
 use Rattle.blaze_table.proofs.Paints.Clearing.{below_below}
 use Rattle.blaze_entries.proofs.EditLists.{below_with, from_with_under, from_with, start_with, start_beside, without_with, start_beside_without, below_without, from_without, below_replaced, from_replaced, start_replaced, start_beside_replaced, start_below}
-use Rattle.blaze_table.proofs.Canonical.Lookup.{IsAbove, IsAbove-from_apart}
-use Rattle.blaze_table.proofs.Paints.Kept.{in_from, later_in}
-use Rattle.blaze_table.proofs.Paints.Painted.{entries_themselves}
 
 module _ {V : Type 0} where
   is_there : {a : Entry V} (o : Option (Entry V)) → o ≡ Some a → IsSome o

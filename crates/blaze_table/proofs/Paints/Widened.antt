@@ -1,12 +1,7 @@
 -- A painted range, joined with its neighbours, is the result of the paint.
-use Rattle.blaze_table.proofs.Words.{◌≡◌, ℤ, pos, ◌+ℤ◌, ◌-ℤ◌, ◌≤ℤ◌, ◌<ℤ◌, Bool, true, false, cond, ◌&&◌, ◌||◌, List, [], ◌∷◌, ◌++◌, Option, Some, None, refl, ◌∙◌, sym, subst, ap, arith, inl, inr, IsSome, int_le, ◌⊎◌, Contains, int_eq, option_map, IsEquivalence, ints, by_lt_z, and_parts, append_assoc, le_holds, eq_holds, le_true, eq_true, one_value, Entry, entry, SameEntries, IsApart, IsCanonical, before, after, glue, IsPaintOf, IsSameAbove, found_in, StartsAscend, below, last_below, start_at, IsJoinedEnd, IsUnjoined, joined_start}
-use Rattle.blaze_table.proofs.Paints.Splices.{by_after, by_join, before_keeps, before_cuts, before_ends, below_more, after_skips, after_keeps, canonical_after}
-use Rattle.blaze_table.proofs.Canonical.Lookup.{IsAbove}
-use Rattle.blaze_table.proofs.Paints.Kept.{first_in, later_in, by_first, over_in, in_after}
-use Rattle.blaze_table.proofs.Paints.Painted.{before_past}
+use Rattle.blaze_table.proofs.Words.{◌≡◌, ℤ, pos, ◌+ℤ◌, ◌-ℤ◌, ◌≤ℤ◌, ◌<ℤ◌, Bool, true, false, cond, ◌&&◌, ◌||◌, List, [], ◌∷◌, ◌++◌, Option, Some, None, refl, ◌∙◌, sym, subst, ap, arith, inl, inr, IsSome, int_le, ◌⊎◌, Contains, int_eq, option_map, IsEquivalence, ints, by_lt_z, and_parts, append_assoc, le_holds, eq_holds, le_true, eq_true, one_value, Entry, entry, SameEntries, IsApart, IsCanonical, before, after, glue, IsPaintOf, IsSameAbove, found_in, StartsAscend, below, last_below, start_at, IsJoinedEnd, IsUnjoined, joined_start, by_after, by_join, before_keeps, before_cuts, before_ends, below_more, after_skips, after_keeps, canonical_after, IsAbove, first_in, later_in, by_first, over_in, in_after, before_past, glue-last}
 use Rattle.blaze_table.proofs.Cuts.Splits.{LastAt, last_at, no_last_from, ends_below, canonical_part}
 use Rattle.blaze_table.proofs.Neighbours.Growing.{last_there, front_last}
-use Rattle.blaze_table.proofs.Neighbours.Glued.{glue-last}
 
 module _ {V : Type 0} (eq : V → V → Bool) where
   pub after_over : (k : ℤ) (es : List (Entry V)) → IsAbove k es → IsCanonical eq es → after k es ≡ es

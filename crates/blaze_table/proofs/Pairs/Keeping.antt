@@ -1,11 +1,8 @@
 -- Keys appended to a list one by one: the pairs that remain of those that a closure was called with.
-use Rattle.blaze_table.proofs.Words.{nat_of, option_or, ◌≡◌, ℕ, ◌+◌, ℤ, pos, ◌+ℤ◌, ◌-ℤ◌, ◌≤ℤ◌, Bool, true, false, cond, List, [], ◌∷◌, ◌++◌, Some, None, refl, ap, sym, ◌∙◌, subst, arith, int_eq, IsEquivalence, items_where_true, ints, by_lt_z, nat_of-pos, returns-push, picked-push_true, picked-push_false, same_along, same_trans, same_or, Entry, entry, at, SameOption, IsCanonical, AreKeys, keys_in, AddsKey, IsKept, KeepsMore, pairs_from, pairs_of, pair_list, value_at, glue, IsBelow, IsTable}
+use Rattle.blaze_table.proofs.Words.{nat_of, option_or, ◌≡◌, ℕ, ◌+◌, ℤ, pos, ◌+ℤ◌, ◌-ℤ◌, ◌≤ℤ◌, Bool, true, false, cond, List, [], ◌∷◌, ◌++◌, Some, None, refl, ap, sym, ◌∙◌, subst, arith, int_eq, IsEquivalence, items_where_true, ints, by_lt_z, nat_of-pos, returns-push, picked-push_true, picked-push_false, same_along, same_trans, same_or, Entry, entry, at, SameOption, IsCanonical, AreKeys, keys_in, AddsKey, IsKept, KeepsMore, pairs_from, pairs_of, pair_list, value_at, glue, IsBelow, IsTable, keys_glue, are_keys_glue, some_keys, IsAbove, IsAbove-from_apart, at_in, at_under, at_over, above_low, canonical_glue, at_glue, below_glue, below_more}
 use Rattle.std.proofs.Common.{append_assoc, append-nil}
 use Rattle.std.proofs.lemmas.List.{length-append}
-use Rattle.blaze_table.proofs.Canonical.Counted.{keys_glue, are_keys_glue, some_keys}
-use Rattle.blaze_table.proofs.Canonical.Lookup.{IsAbove, IsAbove-from_apart, at_in, at_under, at_over, above_low}
 use Rattle.blaze_table.proofs.Pairs.PairLists.{pairs_append, pair_list-push}
-use Rattle.blaze_table.proofs.Paints.Splices.{canonical_glue, at_glue, below_glue, below_more}
 use Rattle.blaze_table.proofs.Cuts.Splits.{canonical_part}
 
 -- the number of keys of a list with one more key

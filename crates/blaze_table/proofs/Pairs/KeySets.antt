@@ -1,8 +1,5 @@
 -- The set of ranges after a sweep, and lists of ranges with the same keys.
-use Rattle.blaze_table.proofs.Words.{option_or, ◌≡◌, ℤ, Bool, true, false, cond, List, [], ◌∷◌, Option, Some, None, refl, ◌∙◌, sym, ap, subst, Decides, Entry, at, holds, SameOption, SameEntries, IsCanonicalOf, last_at, painted_in_order, IsRangeSet, IsSetOf, same_ranges, unit_eq}
-use Rattle.blaze_table.proofs.Paints.Painted.{entries_themselves}
-use Rattle.blaze_table.proofs.Canonical.SameLists.{same_from_test, test_from_same, content_decides}
-use Rattle.blaze_table.proofs.Pairs.UnitLaws.{unit_laws}
+use Rattle.blaze_table.proofs.Words.{option_or, ◌≡◌, ℤ, Bool, true, false, cond, List, [], ◌∷◌, Option, Some, None, refl, ◌∙◌, sym, ap, subst, Decides, Entry, at, holds, SameOption, SameEntries, IsCanonicalOf, last_at, painted_in_order, IsRangeSet, IsSetOf, same_ranges, unit_eq, entries_themselves, same_from_test, test_from_same, content_decides, unit_laws}
 
 unit_same : (a b : Option (Unit {0})) → SameOption unit_eq a b → a ≡ b
 unit_same None None s = refl

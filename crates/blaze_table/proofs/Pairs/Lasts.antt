@@ -1,6 +1,5 @@
 -- The last pair that contains a key.
-use Rattle.blaze_table.proofs.Words.{option_or, ◌≡◌, ℕ, zero, suc, ◌<◌, ℤ, pos, ◌+ℤ◌, ◌≤ℤ◌, ◌<ℤ◌, Bool, true, false, cond, List, [], ◌∷◌, Option, Some, None, refl, ◌∙◌, ap, arith, slice_get, ints, or_none, Entry, holds, last_at, AreApart}
-use Rattle.blaze_table.proofs.Canonical.Lookup.{holds_in, holds_under, holds_over}
+use Rattle.blaze_table.proofs.Words.{option_or, ◌≡◌, ℕ, zero, suc, ◌<◌, ℤ, pos, ◌+ℤ◌, ◌≤ℤ◌, ◌<ℤ◌, Bool, true, false, cond, List, [], ◌∷◌, Option, Some, None, refl, ◌∙◌, ap, arith, slice_get, ints, or_none, Entry, holds, last_at, AreApart, holds_in, holds_under, holds_over}
 
 module _ {V : Type 0} where
   pub painted_one : (b : Bool) (v : V) (o : Option V) → cond b (Some v) o ≡ option_or (cond b (Some v) None) o

@@ -1,8 +1,6 @@
 -- The pair list of a range map is its content, key by key.
-use Rattle.blaze_table.proofs.Words.{nat_of, option_or, ◌≡◌, ℕ, zero, suc, ℤ, pos, ◌+ℤ◌, ◌-ℤ◌, ◌≤ℤ◌, ◌<ℤ◌, Bool, true, false, cond, List, [], ◌∷◌, ◌++◌, length, Option, Some, None, refl, ap, sym, ◌∙◌, subst, arith, int_eq, IsEquivalence, ints, by_lt_z, nat_of-pos, Entry, at, IsCanonical, AreKeys, keys_in, PairsAreContent, pairs_from, pairs_of, pair_list, value_at, IsAscendingPairs}
+use Rattle.blaze_table.proofs.Words.{nat_of, option_or, ◌≡◌, ℕ, zero, suc, ℤ, pos, ◌+ℤ◌, ◌-ℤ◌, ◌≤ℤ◌, ◌<ℤ◌, Bool, true, false, cond, List, [], ◌∷◌, ◌++◌, length, Option, Some, None, refl, ap, sym, ◌∙◌, subst, arith, int_eq, IsEquivalence, ints, by_lt_z, nat_of-pos, Entry, at, IsCanonical, AreKeys, keys_in, PairsAreContent, pairs_from, pairs_of, pair_list, value_at, IsAscendingPairs, IsAbove, IsAbove-from_apart, at_in, at_under, at_over, by_place, above_low, canonical}
 use Rattle.std.proofs.lemmas.List.{length-append}
-use Rattle.blaze_table.proofs.Canonical.Lookup.{IsAbove, IsAbove-from_apart, at_in, at_under, at_over, by_place, above_low}
-use Rattle.blaze_table.proofs.Canonical.Runs.{canonical}
 
 -- the n numbers from a on are the ranks of keys
 abbrev pub AreRanks : {K : Type 0} → (K → ℤ) → (ℤ → K) → ℤ → ℕ → Type 0

@@ -1,8 +1,5 @@
 -- A list with everything that pairs paint is their canonical list, and its length.
-use Rattle.blaze_table.proofs.Words.{option_or, ◌≡◌, ℕ, ◌+◌, ◌-◌, ◌*◌, ◌≤◌, ℤ, ◌≤ℤ◌, Bool, cond, List, [], ◌∷◌, length, Some, None, refl, ◌∙◌, sym, ap, subst, arith, inl, inr, ⊎_elim, int_le, ◌⊎◌, IsEquivalence, by_lt_z, le_true, le_false, same_along, same_itself, same_trans, same_or_right, same_back, or_none, or_assoc, Entry, at, holds, SameOption, IsCanonical, last_at, painted_in_order, IsListPainted, paint, keyed_count, IsCanonicalOf, IsSwept}
-use Rattle.blaze_table.proofs.Paints.Painted.{is_painted, paint_itself, painted_nowhere, length_as}
-use Rattle.blaze_table.proofs.Canonical.Runs.{one_per_run}
-use Rattle.blaze_table.proofs.Canonical.Unique.{unique}
+use Rattle.blaze_table.proofs.Words.{option_or, ◌≡◌, ℕ, ◌+◌, ◌-◌, ◌*◌, ◌≤◌, ℤ, ◌≤ℤ◌, Bool, cond, List, [], ◌∷◌, length, Some, None, refl, ◌∙◌, sym, ap, subst, arith, inl, inr, ⊎_elim, int_le, ◌⊎◌, IsEquivalence, by_lt_z, le_true, le_false, same_along, same_itself, same_trans, same_or_right, same_back, or_none, or_assoc, Entry, at, holds, SameOption, IsCanonical, last_at, painted_in_order, IsListPainted, paint, keyed_count, IsCanonicalOf, IsSwept, is_painted, paint_itself, painted_nowhere, length_as, one_per_run, unique}
 use Rattle.blaze_table.proofs.Pairs.Lasts.{painted_one}
 use Rattle.blaze_table.proofs.Sweeping.Sweeps.{at_past}
 

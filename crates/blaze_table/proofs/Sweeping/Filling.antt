@@ -5,9 +5,9 @@ use Rattle.std.specs.Cmp.{IsEquivalence}
 use Rattle.std.proofs.lemmas.Int.{ints, by_lt_z}
 use Rattle.blaze_int.proofs.Comparisons.{by_bool}
 use Rattle.blaze_entries.proofs.Alike.{same_trans}
-use Rattle.blaze_table.specs.Entries.{Entry, entry, SameOption}
-use Rattle.blaze_table.specs.Painted.{last_at}
-use Rattle.blaze_table.specs.Splice.{glue}
+use Rattle.blaze_entries.specs.Entries.{Entry, entry, SameOption}
+use Rattle.blaze_entries.specs.Painted.{last_at}
+use Rattle.blaze_entries.specs.Splice.{glue}
 use Rattle.blaze_table.specs.declared.sweep.pair_value.PairValue.{PairValue}
 use Rattle.blaze_table.specs.declared.sweep.pair_value.PairValue.TheVariants.{Present, Moved}
 use Rattle.blaze_table.specs.declared.sweep.placed.Placed.{Placed}

@@ -1,12 +1,12 @@
 -- The values of pairs, by their positions, and the remaining values.
+use Rattle.blaze_table.proofs.Words.{by_join}
 use Rattle.std.proofs.Common.{◌≡◌, ℕ, zero, suc, ◌-◌, ◌<◌, ◌≤◌, ℤ, Bool, List, [], ◌∷◌, length, slice_set, Some, refl, ◌∙◌, sym, ap, subst, arith, get_or, option_map}
 use Rattle.std.specs.Prelude.{slice_get, IsSome}
 use Rattle.std.specs.Cmp.{IsEquivalence}
 use Rattle.std.proofs.lemmas.List.{length-map}
 use Rattle.std.proofs.lemmas.Option.{slice_get-map, slice_get_read}
-use Rattle.blaze_table.specs.Entries.{Entry, SameOption, shown_entry, shown_list}
-use Rattle.blaze_table.specs.Splice.{glue}
-use Rattle.blaze_table.proofs.Paints.Splices.{by_join}
+use Rattle.blaze_entries.specs.Entries.{Entry, SameOption, shown_entry, shown_list}
+use Rattle.blaze_entries.specs.Splice.{glue}
 use Rattle.blaze_table.specs.declared.sweep.pair_value.PairValue.{PairValue}
 use Rattle.blaze_table.specs.declared.sweep.pair_value.PairValue.TheVariants.{Moved}
 use Rattle.blaze_table.specs.PairValue.{value_of_pair, value_in}

@@ -1,10 +1,10 @@
 -- Pieces appended one by one.
+use Rattle.blaze_table.proofs.Words.{by_join}
 use Rattle.std.proofs.Common.{◌≡◌, ℕ, ◌≤◌, ℤ, pos, ◌+ℤ◌, ◌≤ℤ◌, true, List, [], ◌∷◌, Some, refl, sym, ap, subst, arith, nat_eq, All}
 use Rattle.std.specs.Prelude.{slice_get}
 use Rattle.std.proofs.lemmas.Int.{ints, by_lt_z}
-use Rattle.blaze_table.specs.Entries.{Entry, entry}
-use Rattle.blaze_table.specs.Splice.{glue}
-use Rattle.blaze_table.proofs.Paints.Splices.{by_join}
+use Rattle.blaze_entries.specs.Entries.{Entry, entry}
+use Rattle.blaze_entries.specs.Splice.{glue}
 use Rattle.blaze_table.specs.Pieces.{IsUncovered, IsPiece, ArePieces, IsWaiting}
 use Rattle.blaze_table.proofs.Sweeping.Placed.{one_item}
 use Rattle.blaze_table.proofs.Sweeping.Waitings.{top_pair, top_is_last, none_is}

@@ -1,4 +1,5 @@
 -- Pairs with their positions.
+use Rattle.blaze_table.proofs.Words.{holds_in, holds_ends, tail_sorted, not_less}
 use Rattle.std.proofs.Common.{◌≡◌, ℕ, zero, suc, ◌+◌, ◌<◌, ℤ, ◌≤ℤ◌, ◌<ℤ◌, true, List, [], ◌∷◌, ◌++◌, length, All, IsPermutation, Some, None, drop, refl, ◌∙◌, sym, ap, subst, arith, inl, inr, ⊎_elim}
 use Rattle.std.specs.Prelude.{slice_get, slice_index_or, ◌⊎◌}
 use Rattle.std.specs.List.{Contains}
@@ -11,13 +12,11 @@ use Rattle.std.proofs.lemmas.List.Elements.{All-nil, All-push, All-head, All-tai
 use Rattle.std.proofs.lemmas.List.Sorted.{All-permutation, Contains-permutation, IsPermutation-map}
 use Rattle.std.proofs.lemmas.Option.{get_or_from_slice_get, slice_get_within}
 use Rattle.blaze_int.proofs.Comparisons.{by_bool}
-use Rattle.blaze_table.specs.Canonical.{AreKeys}
-use Rattle.blaze_table.specs.Entries.{Entry, entry, holds}
-use Rattle.blaze_table.specs.Painted.{last_at}
+use Rattle.blaze_entries.specs.Canonical.{AreKeys}
+use Rattle.blaze_entries.specs.Entries.{Entry, entry, holds}
+use Rattle.blaze_entries.specs.Painted.{last_at}
 use Rattle.blaze_table.specs.Pieces.{IsPlacedPair, places_of, ArePairsPlacedBelow, AreAllPairsPlaced, HasKey, EndsAreKeys, AreAscending, IsPiece}
 use Rattle.blaze_table.proofs.Pairs.Lasts.{last_none, last_is}
-use Rattle.blaze_table.proofs.Canonical.Lookup.{holds_in, holds_ends}
-use Rattle.blaze_table.proofs.Sweeping.Orders.{tail_sorted, not_less}
 use Rattle.blaze_table.specs.declared.sweep.placed.Placed.{Placed}
 
 -- ---- items of lists

@@ -1,8 +1,5 @@
 -- One more part of a sweep.
-use Rattle.blaze_table.proofs.Words.{option_or, ◌≡◌, ℤ, pos, ◌+ℤ◌, ◌-ℤ◌, ◌≤ℤ◌, ◌<ℤ◌, Bool, List, [], ◌∷◌, Option, Some, None, refl, ◌∙◌, sym, ap, subst, arith, IsEquivalence, ints, by_lt_z, same_along, same_trans, or_none, none_or, Entry, entry, at, SameOption, glue, IsBelow, IsBare, IsSwept}
-use Rattle.blaze_table.proofs.Canonical.Counted.{are_keys_glue}
-use Rattle.blaze_table.proofs.Canonical.Lookup.{at_in, at_under, at_over}
-use Rattle.blaze_table.proofs.Paints.Splices.{canonical_glue, at_glue, below_glue, below_more}
+use Rattle.blaze_table.proofs.Words.{option_or, ◌≡◌, ℤ, pos, ◌+ℤ◌, ◌-ℤ◌, ◌≤ℤ◌, ◌<ℤ◌, Bool, List, [], ◌∷◌, Option, Some, None, refl, ◌∙◌, sym, ap, subst, arith, IsEquivalence, ints, by_lt_z, same_along, same_trans, or_none, none_or, Entry, entry, at, SameOption, glue, IsBelow, IsBare, IsSwept, are_keys_glue, at_in, at_under, at_over, canonical_glue, at_glue, below_glue, below_more}
 
 pub at_past : {V : Type 0} (b k : ℤ) (es : List (Entry V)) → IsBelow b es → b ≤ℤ k → at es k ≡ None
 at_past b k [] h l = refl

@@ -6,7 +6,7 @@ use Rattle.std.proofs.lemmas.Int.{ints}
 use Rattle.std.proofs.lemmas.List.Elements.{All-nil, All-cons, Contains-append_right}
 use Rattle.std.proofs.lemmas.List.Sorted.{All-permutation, Contains-permutation}
 use Rattle.std.proofs.lemmas.Option.{slice_get_within}
-use Rattle.blaze_table.specs.Entries.{Entry}
+use Rattle.blaze_entries.specs.Entries.{Entry}
 use Rattle.blaze_table.specs.Pieces.{EndsAreKeys, AreAscending, HasStarted, IsWaiting, KeepsReaching, ArePieces, IsSweptSoFar}
 use Rattle.blaze_table.proofs.Sweeping.Pieces.{ended}
 use Rattle.blaze_table.proofs.Sweeping.Placed.{one_item, item_of, one_more}

@@ -1,9 +1,7 @@
 -- A walk down to a range makes at most a few more lookups than a paint of the range removes entries.
-use Rattle.blaze_table.proofs.Words.{◌≡◌, ℕ, ◌+◌, ◌≤◌, ℤ, pos, ◌+ℤ◌, ◌≤ℤ◌, Bool, List, [], ◌∷◌, length, ◌∙◌, ap, arith, Result, Ok, Err, OnOk, IfOk, ints, by_lt_z, CountedEntries, StartsAscend, below, from, HasWalkLookups, below_takes, below_skips, below_none, from_takes, from_skips, from_all, Entry, entry, IsCanonical, IsCountedPaint, PutsAtMost, HasEditLookups, IsWorked, before, after, IsTablePainted}
-use Rattle.blaze_table.proofs.Canonical.Lookup.{IsAbove-from_apart, above_by}
+use Rattle.blaze_table.proofs.Words.{◌≡◌, ℕ, ◌+◌, ◌≤◌, ℤ, pos, ◌+ℤ◌, ◌≤ℤ◌, Bool, List, [], ◌∷◌, length, ◌∙◌, ap, arith, Result, Ok, Err, OnOk, IfOk, ints, by_lt_z, CountedEntries, StartsAscend, below, from, HasWalkLookups, below_takes, below_skips, below_none, from_takes, from_skips, from_all, Entry, entry, IsCanonical, IsCountedPaint, PutsAtMost, HasEditLookups, IsWorked, before, after, IsTablePainted, IsAbove-from_apart, above_by, by_before, by_after}
 use Rattle.blaze_table.proofs.Walks.Plans.{from_above}
 use Rattle.blaze_table.proofs.Walks.Worked.{counted_then, counted_looked}
-use Rattle.blaze_table.proofs.Paints.Splices.{by_before, by_after}
 
 module _ {V : Type 0} where
   -- at most one entry starts at the key right above the range

@@ -1,16 +1,13 @@
 -- The results of a walk down to a range, as an edit of the range requires them.
-use Rattle.blaze_table.proofs.Words.{◌≡◌, ℤ, pos, ◌+ℤ◌, ◌-ℤ◌, ◌≤ℤ◌, ◌<ℤ◌, Bool, true, false, cond, List, [], ◌∷◌, Option, Some, None, refl, ◌∙◌, sym, subst, ap, arith, ℕ, inl, inr, last_or, option_map, int_eq, int_le, ◌&&◌, ◌||◌, IsSome, IfSome, IsSomeAnd, ints, by_lt_z, lt_true, lt_false, le_true, not_both, CountedEntries, RangeEntry, found_in, shown_found, RangesAscend, end_of, IsSeenIn, IsAboveCloned, GoesOnUnlike, IsClonedIf, IsWalk, StartsAscend, below, last_below, start_at, below_none, below_takes, IsCanonical, AreKeys, Entry, entry, at, entry_at, SameOption, ClonesAreAlike, IsInside, joined_start, IsUnjoined, IsJoinedEndAfter, IsJoinedEnd, IsLikeAbove, IsUnlikeAbove, GoesOnUnequal, HasEditLookups, IsWalkOf, after, IsTable}
+use Rattle.blaze_table.proofs.Words.{◌≡◌, ℤ, pos, ◌+ℤ◌, ◌-ℤ◌, ◌≤ℤ◌, ◌<ℤ◌, Bool, true, false, cond, List, [], ◌∷◌, Option, Some, None, refl, ◌∙◌, sym, subst, ap, arith, ℕ, inl, inr, last_or, option_map, int_eq, int_le, ◌&&◌, ◌||◌, IsSome, IfSome, IsSomeAnd, ints, by_lt_z, lt_true, lt_false, le_true, not_both, CountedEntries, RangeEntry, found_in, shown_found, RangesAscend, end_of, IsSeenIn, IsAboveCloned, GoesOnUnlike, IsClonedIf, IsWalk, StartsAscend, below, last_below, start_at, below_none, below_takes, IsCanonical, AreKeys, Entry, entry, at, entry_at, SameOption, ClonesAreAlike, IsInside, joined_start, IsUnjoined, IsJoinedEndAfter, IsJoinedEnd, IsLikeAbove, IsUnlikeAbove, GoesOnUnequal, HasEditLookups, IsWalkOf, after, IsTable, keys_apart, value-entry_at, by_after}
 use Rattle.blaze_entries.specs.Overlap.{covered_keys}
 use Rattle.blaze_table.specs.Planned.{Seen}
-use Rattle.blaze_table.proofs.Canonical.Counted.{keys_apart}
-use Rattle.blaze_table.proofs.Canonical.Lookup.{value-entry_at}
 use Rattle.blaze_table.proofs.Cuts.CutEdits.{entry_held}
 use Rattle.blaze_table.proofs.Cuts.Cutting.{covered_fits}
 use Rattle.blaze_table.proofs.Cuts.Splits.{last_at}
 use Rattle.blaze_table.proofs.Neighbours.Growing.{last_there}
 use Rattle.blaze_table.proofs.Neighbours.Holders.{starts_over}
 use Rattle.blaze_table.proofs.Paints.Inside.{inside_at}
-use Rattle.blaze_table.proofs.Paints.Splices.{by_after}
 
 -- a range is not inside an entry with an equal value if an entry with an unequal value extends above it
 pub not_inside : {V : Type 0} (eq : V → V → Bool) (v : V) (l h : ℤ) → l ≤ℤ h → (es : List (Entry V)) → IsCanonical eq es → GoesOnUnequal (λ x. eq x v) h es → IsInside eq l h v es → ⊥

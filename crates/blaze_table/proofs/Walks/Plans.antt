@@ -1,7 +1,5 @@
 -- The facts about the list that the plan of a paint gives.
-use Rattle.blaze_table.proofs.Words.{◌≡◌, ℤ, pos, ◌+ℤ◌, ◌≤ℤ◌, ◌<ℤ◌, Bool, true, false, cond, List, [], ◌∷◌, Option, Some, None, refl, ◌∙◌, sym, subst, ap, arith, inl, inr, IfSome, IsSomeAnd, int_le, ◌&&◌, ◌||◌, option_map, ints, by_lt_z, by_bool, lt_true, lt_false, not_both, int_eq, found_in, range_in, shown_found, shown_ends, Seen, shown_plan, StartsAscend, from, last_below, start_at, RangeEntry, Plan, one_value, from_takes, from_skips, Entry, entry, IsEditPlan, IsCanonical, IsLikeAbove, IsUnjoined, IsJoinedTo, IsJoinedEnd, tail_of, joined_start, IsPlanOf, IsEntryAcross, IsTail, after}
-use Rattle.blaze_table.proofs.Canonical.Lookup.{IsAbove, IsAbove-from_apart, above_by}
-use Rattle.blaze_table.proofs.Paints.Splices.{by_after, after_skips}
+use Rattle.blaze_table.proofs.Words.{◌≡◌, ℤ, pos, ◌+ℤ◌, ◌≤ℤ◌, ◌<ℤ◌, Bool, true, false, cond, List, [], ◌∷◌, Option, Some, None, refl, ◌∙◌, sym, subst, ap, arith, inl, inr, IfSome, IsSomeAnd, int_le, ◌&&◌, ◌||◌, option_map, ints, by_lt_z, by_bool, lt_true, lt_false, not_both, int_eq, found_in, range_in, shown_found, shown_ends, Seen, shown_plan, StartsAscend, from, last_below, start_at, RangeEntry, Plan, one_value, from_takes, from_skips, Entry, entry, IsEditPlan, IsCanonical, IsLikeAbove, IsUnjoined, IsJoinedTo, IsJoinedEnd, tail_of, joined_start, IsPlanOf, IsEntryAcross, IsTail, after, IsAbove, IsAbove-from_apart, above_by, by_after, after_skips}
 use Rattle.blaze_table.proofs.Cuts.Splits.{LastAt, last_at, after_short, after_long, after_none, none_next}
 use Rattle.blaze_table.proofs.Neighbours.Growing.{last_there, left_is}
 use Rattle.blaze_table.proofs.Paints.Placing.{around_last}

@@ -2,11 +2,11 @@
 //! fail, come first.
 ghost use Rattle.std.specs.Prelude.{◌≡◌, Some, None, OnOk, OnErr, IsSome};
 ghost use Rattle.std.specs.Option.{option_map};
-ghost use Rattle.blaze_table.specs.Canonical.{IsCanonical};
+ghost use Rattle.blaze_entries.specs.Canonical.{IsCanonical};
 ghost use Rattle.blaze_table.specs.Edited.{IsEditPlan};
-ghost use Rattle.blaze_table.specs.Entries.{entry};
+ghost use Rattle.blaze_entries.specs.Entries.{entry};
 ghost use Rattle.blaze_table.specs.Planned.{IsEntryExtended, IsEntryBetween, IsWorked};
-ghost use Rattle.blaze_table.specs.Splice.{IsRangeTaken};
+ghost use Rattle.blaze_entries.specs.Splice.{IsRangeTaken};
 ghost use Rattle.blaze_table.specs.Work.{IsRefused};
 
 mod place;

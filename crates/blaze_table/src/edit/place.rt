@@ -4,9 +4,9 @@ ghost use Rattle.std.specs.Prelude.{◌≡◌, ◌<ℤ◌, length, None, OnOk, O
 ghost use Rattle.std.specs.Option.{option_map};
 ghost use Rattle.blaze_entries.specs.Found.{shown_ends};
 ghost use Rattle.blaze_entries.specs.Starts.{start_at};
-ghost use Rattle.blaze_table.specs.Canonical.{IsCanonical};
+ghost use Rattle.blaze_entries.specs.Canonical.{IsCanonical};
 ghost use Rattle.blaze_table.specs.Edited.{HasRoom, IsEditPlan, IsTailSplit};
-ghost use Rattle.blaze_table.specs.Entries.{entry};
+ghost use Rattle.blaze_entries.specs.Entries.{entry};
 ghost use Rattle.blaze_table.specs.Planned.{inner_entries, IsEntrySet, IsWorked};
 ghost use Rattle.blaze_table.specs.Work.{IsRefused};
 

@@ -4,10 +4,10 @@ ghost use Rattle.std.specs.Prelude.{◌≡◌, ◌++◌, ◌≤◌, pos, ◌+ℤ
 ghost use Rattle.std.specs.Option.{option_map};
 ghost use Rattle.blaze_entries.specs.Found.{shown_ends};
 ghost use Rattle.blaze_entries.specs.Starts.{below, from, start_at, without};
-ghost use Rattle.blaze_table.specs.Canonical.{IsCanonical};
+ghost use Rattle.blaze_entries.specs.Canonical.{IsCanonical};
 ghost use Rattle.blaze_table.specs.Edited.{IsPredecessor, is_removed};
 ghost use Rattle.blaze_table.specs.Planned.{IsWorked};
-ghost use Rattle.blaze_table.specs.Splice.{before};
+ghost use Rattle.blaze_entries.specs.Splice.{before};
 
 use blaze_entries::{Counted, RangeEntry};
 use blaze_int::Integer;

@@ -2,8 +2,8 @@
 ghost use Rattle.std.specs.Prelude.{◌≡◌, ◌↔◌, ℤ, IsTrue};
 ghost use Rattle.std.proofs.Common.{rules};
 ghost use Rattle.std.specs.Cmp.Rules.{comparing};
-ghost use Rattle.blaze_table.specs.Entries.{at};
-ghost use Rattle.blaze_table.specs.RangeSets.{same_ranges};
+ghost use Rattle.blaze_entries.specs.Entries.{at};
+ghost use Rattle.blaze_entries.specs.RangeSets.{same_ranges};
 
 use crate::set::range_set::RangeSetBlaze;
 use blaze_int::Integer;

@@ -1,12 +1,12 @@
 //! An iterator over the owned ranges of a set.
-ghost use Rattle.std.specs.Prelude.{◌≡◌, length, Some, IfSome};
+ghost use Rattle.std.specs.Prelude.{◌≡◌, length, refl, Some, IfSome};
 ghost use Rattle.std.specs.Iterator.{item_count, UpTo};
 ghost use Rattle.std.specs.Iterator.SizeHint.{IsWithinCount};
-ghost use Rattle.blaze_table.specs.RangeSets.{shown_bare_range, IsRangeSet};
-ghost use Rattle.blaze_table.specs.Whole.{YieldsWholeFirst, YieldsWholeLast};
+ghost use Rattle.blaze_entries.specs.RangeSets.{shown_bare_range, IsRangeSet};
+ghost use Rattle.blaze_entries.specs.Whole.{YieldsWholeFirst, YieldsWholeLast};
 
 use crate::table::RangeTable;
-use blaze_entries::IntoIter;
+use blaze_entries::{IntoIter, SortedDisjoint};
 use blaze_int::Integer;
 use std::iter::FusedIterator;
 use std::marker::Model;
@@ -22,8 +22,8 @@ pub struct IntoRangesIter<T: Integer> {
 impl<T: Integer> Model for IntoRangesIter<T> {
     ghost use Rattle.std.specs.Prelude.{List};
     ghost use Rattle.std.specs.Coded.{coded_list};
-    ghost use Rattle.blaze_table.specs.Entries.{Entry};
-    ghost use Rattle.blaze_table.specs.RangeSets.{bare_code, IsRangeSet};
+    ghost use Rattle.blaze_entries.specs.Entries.{Entry};
+    ghost use Rattle.blaze_entries.specs.RangeSets.{bare_code, IsRangeSet};
 
     ghost Value = { List (Entry (Unit {0})) };
 
@@ -92,3 +92,24 @@ impl<T: Integer> ExactSizeIterator for IntoRangesIter<T> {
 }
 
 impl<T: Integer> FusedIterator for IntoRangesIter<T> {}
+
+/// The ranges of a set are a stream.
+impl<T: Integer> SortedDisjoint<T> for IntoRangesIter<T> {
+    ghost left = { λ s. s };
+
+    ghost least = { λ s. length s };
+
+    fn in_hand(&self) {
+        IntoRangesIter::in_hand(self);
+    }
+
+    fn least_len(&self) -> usize {
+        self.size_hint().0
+    }
+
+    ghost ready = { λ _. tt };
+
+    ghost counted = { λ _. refl };
+
+    ghost gives = { λ _ _ _ given. given.0 };
+}

@@ -2,9 +2,9 @@
 ghost use Rattle.std.specs.Prelude.{◌≡◌, ◌↔◌, pos, List, [], length, IsTrue, IsSome, IfOk, map};
 ghost use Rattle.std.specs.Iterator.{Drains, IsFinite};
 ghost use Rattle.std.specs.declared.ops.RangeInclusive.{RangeInclusive};
-ghost use Rattle.blaze_table.specs.Entries.{at, shown_entry};
-ghost use Rattle.blaze_table.specs.Count.{keys_in, mapped_keys};
-ghost use Rattle.blaze_table.specs.RangeSets.{shown_bare_ranges, IsSetOf, IsRangeSet};
+ghost use Rattle.blaze_entries.specs.Entries.{at, shown_entry};
+ghost use Rattle.blaze_entries.specs.Count.{keys_in, mapped_keys};
+ghost use Rattle.blaze_entries.specs.RangeSets.{shown_bare_ranges, IsSetOf, IsRangeSet};
 
 use crate::set::into_ranges_iter::IntoRangesIter;
 use crate::set::ranges_iter::RangesIter;
@@ -24,8 +24,8 @@ pub struct RangeSetBlaze<T: Integer> {
 impl<T: Integer> Model for RangeSetBlaze<T> {
     ghost use Rattle.std.specs.Prelude.{List};
     ghost use Rattle.std.specs.Coded.{coded_list};
-    ghost use Rattle.blaze_table.specs.Entries.{Entry};
-    ghost use Rattle.blaze_table.specs.RangeSets.{bare_code};
+    ghost use Rattle.blaze_entries.specs.Entries.{Entry};
+    ghost use Rattle.blaze_entries.specs.RangeSets.{bare_code};
 
     ghost Value = { List (Entry (Unit {0})) };
 

@@ -1,12 +1,12 @@
 //! An iterator over the ranges of a borrowed set.
-ghost use Rattle.std.specs.Prelude.{◌≡◌, length, Some, IfSome};
+ghost use Rattle.std.specs.Prelude.{◌≡◌, length, refl, Some, IfSome};
 ghost use Rattle.std.specs.Iterator.{item_count, UpTo};
 ghost use Rattle.std.specs.Iterator.SizeHint.{IsWithinCount};
-ghost use Rattle.blaze_table.specs.RangeSets.{shown_bare_range, IsRangeSet};
-ghost use Rattle.blaze_table.specs.Whole.{YieldsWholeFirst, YieldsWholeLast};
+ghost use Rattle.blaze_entries.specs.RangeSets.{shown_bare_range, IsRangeSet};
+ghost use Rattle.blaze_entries.specs.Whole.{YieldsWholeFirst, YieldsWholeLast};
 
 use crate::table::RangeTable;
-use blaze_entries::Iter;
+use blaze_entries::{Iter, SortedDisjoint};
 use blaze_int::Integer;
 use std::iter::FusedIterator;
 use std::marker::Model;
@@ -22,8 +22,8 @@ pub struct RangesIter<'a, T: Integer> {
 impl<'a, T: Integer> Model for RangesIter<'a, T> {
     ghost use Rattle.std.specs.Prelude.{List};
     ghost use Rattle.std.specs.Coded.{coded_list};
-    ghost use Rattle.blaze_table.specs.Entries.{Entry};
-    ghost use Rattle.blaze_table.specs.RangeSets.{bare_code, IsRangeSet};
+    ghost use Rattle.blaze_entries.specs.Entries.{Entry};
+    ghost use Rattle.blaze_entries.specs.RangeSets.{bare_code, IsRangeSet};
 
     ghost Value = { List (Entry (Unit {0})) };
 
@@ -92,3 +92,24 @@ impl<'a, T: Integer> ExactSizeIterator for RangesIter<'a, T> {
 }
 
 impl<'a, T: Integer> FusedIterator for RangesIter<'a, T> {}
+
+/// The ranges of a set are a stream.
+impl<'a, T: Integer> SortedDisjoint<T> for RangesIter<'a, T> {
+    ghost left = { λ s. s };
+
+    ghost least = { λ s. length s };
+
+    fn in_hand(&self) {
+        RangesIter::in_hand(self);
+    }
+
+    fn least_len(&self) -> usize {
+        self.size_hint().0
+    }
+
+    ghost ready = { λ _. tt };
+
+    ghost counted = { λ _. refl };
+
+    ghost gives = { λ _ _ _ given. given.0 };
+}

@@ -1,6 +1,6 @@
 //! Lists of pairs that are already ascending and disjoint.
 ghost use Rattle.std.specs.Prelude.{◌≤ℤ◌, ◌↔◌, IsTrue, IfOk};
-ghost use Rattle.blaze_table.specs.Entries.{shown_list};
+ghost use Rattle.blaze_entries.specs.Entries.{shown_list};
 ghost use Rattle.blaze_table.specs.CanonicalOf.{IsCanonicalOf};
 ghost use Rattle.blaze_table.specs.Swept.{AreApart, key_after};
 

@@ -1,7 +1,7 @@
 //! Values for the pieces of pairs.
 ghost use Rattle.std.specs.Prelude.{pos, ◌+ℤ◌, All, IfOk};
-ghost use Rattle.blaze_table.specs.Entries.{shown_list};
-ghost use Rattle.blaze_table.specs.Painted.{ClonesAreAlike};
+ghost use Rattle.blaze_entries.specs.Entries.{shown_list};
+ghost use Rattle.blaze_entries.specs.Painted.{ClonesAreAlike};
 ghost use Rattle.blaze_table.specs.Pieces.{EndsAreKeys, ArePieces, IsCanonicalOfPlaced};
 
 use crate::sweep::pair_value::{pair_values_of, put_piece};

@@ -1,7 +1,7 @@
 //! The values of pairs, moved out one by one.
 ghost use Rattle.std.specs.Prelude.{◌≡◌, Some, IfOk, IsSome, OnOk, map};
-ghost use Rattle.blaze_table.specs.Entries.{SameOption, shown_list};
-ghost use Rattle.blaze_table.specs.Painted.{ClonesAreAlike};
+ghost use Rattle.blaze_entries.specs.Entries.{SameOption, shown_list};
+ghost use Rattle.blaze_entries.specs.Painted.{ClonesAreAlike};
 ghost use Rattle.blaze_table.specs.PairValue.{value_in, unmoved_value, PutsPiece, moved_to};
 
 use crate::sweep::placed::Placed;

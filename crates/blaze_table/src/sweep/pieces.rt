@@ -1,7 +1,7 @@
 //! The pieces that pairs paint, from the least key up.
 ghost use Rattle.std.specs.Prelude.{◌≤ℤ◌, ◌+ℤ◌, ◌-ℤ◌, pos, All, IfOk, OnOk};
 ghost use Rattle.std.specs.BinaryHeap.{IsHeap, heap_items};
-ghost use Rattle.blaze_table.specs.Entries.{shown_list};
+ghost use Rattle.blaze_entries.specs.Entries.{shown_list};
 ghost use Rattle.blaze_table.specs.Pieces.{AreAscending, EndsAreKeys, place_cmp};
 ghost use Rattle.blaze_table.specs.Pieces.{IsWaiting, KeepsReaching, ArePieces};
 

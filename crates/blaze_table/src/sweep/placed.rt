@@ -1,7 +1,7 @@
 //! Pairs with their positions, ascending by first key.
 ghost use Rattle.std.specs.Prelude.{All, IfOk};
-ghost use Rattle.blaze_table.specs.Canonical.{AreKeys};
-ghost use Rattle.blaze_table.specs.Entries.{shown_list};
+ghost use Rattle.blaze_entries.specs.Canonical.{AreKeys};
+ghost use Rattle.blaze_entries.specs.Entries.{shown_list};
 ghost use Rattle.blaze_table.specs.Pieces.{AreAllPairsPlaced, AreAscending, EndsAreKeys};
 
 use blaze_int::Integer;

@@ -1,7 +1,7 @@
 //! Entries appended one by one.
 ghost use Rattle.std.specs.Prelude.{◌≡◌, ◌∷◌, ◌++◌, [], OnOk, OnErr, MatchBool};
-ghost use Rattle.blaze_table.specs.Entries.{entry, shown_list};
-ghost use Rattle.blaze_table.specs.Splice.{glue};
+ghost use Rattle.blaze_entries.specs.Entries.{entry, shown_list};
+ghost use Rattle.blaze_entries.specs.Splice.{glue};
 
 use blaze_int::Integer;
 use blaze_int::compare::is_next;

@@ -1,10 +1,10 @@
 //! Removal of a key or a range of keys from a table.
 ghost use Rattle.std.specs.Prelude.{◌≡◌, ◌-◌, ◌≤ℤ◌, [], length, slice_get, Some, None, Ok, IfOk, OnOk, OnErr};
 ghost use Rattle.std.specs.Prelude.{MatchOption};
-ghost use Rattle.blaze_table.specs.Entries.{Entry, at, SameOption};
-ghost use Rattle.blaze_table.specs.Painted.{ClonesAreAlike};
-ghost use Rattle.blaze_table.specs.Cut.{IsKeyRemoved, IsFirstKeyRemoved, IsLastKeyRemoved, IsRangeCut, IsAmongOthers};
-ghost use Rattle.blaze_table.specs.Cut.{GoesOnAbove};
+ghost use Rattle.blaze_entries.specs.Entries.{Entry, at, SameOption};
+ghost use Rattle.blaze_entries.specs.Painted.{ClonesAreAlike};
+ghost use Rattle.blaze_entries.specs.Cut.{IsKeyRemoved, IsFirstKeyRemoved, IsLastKeyRemoved, IsRangeCut, IsAmongOthers};
+ghost use Rattle.blaze_entries.specs.Cut.{GoesOnAbove};
 ghost use Rattle.blaze_table.specs.Work.{IsRefused, IsCountedCut};
 
 use super::RangeTable;

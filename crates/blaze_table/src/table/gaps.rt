@@ -1,6 +1,6 @@
 //! The gap around a key of a table.
 ghost use Rattle.std.specs.Prelude.{◌≡◌, ◌⊎◌, ◌≤ℤ◌, None, pos, ◌+ℤ◌, ◌-ℤ◌, IsSome};
-ghost use Rattle.blaze_table.specs.Entries.{at};
+ghost use Rattle.blaze_entries.specs.Entries.{at};
 ghost use Rattle.blaze_table.specs.Gap.{IsGap, IsClearFrom};
 
 use super::RangeTable;

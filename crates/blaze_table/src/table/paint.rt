@@ -1,8 +1,8 @@
 //! Edits in place that set the value of every key in a range.
 ghost use Rattle.std.specs.Prelude.{◌≡◌, ◌↔◌, ◌≤ℤ◌, false, Ok, IfOk, OnOk, OnErr, IsTrue};
-ghost use Rattle.blaze_table.specs.Count.{keys_in};
-ghost use Rattle.blaze_table.specs.Entries.{entry, at, SameOption};
-ghost use Rattle.blaze_table.specs.Painted.{IsPainted, ClonesAreAlike, IsInside};
+ghost use Rattle.blaze_entries.specs.Count.{keys_in};
+ghost use Rattle.blaze_entries.specs.Entries.{entry, at, SameOption};
+ghost use Rattle.blaze_entries.specs.Painted.{IsPainted, ClonesAreAlike, IsInside};
 ghost use Rattle.blaze_table.specs.Work.{IsRefused, IsCountedPaint};
 
 use super::RangeTable;

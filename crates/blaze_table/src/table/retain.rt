@@ -3,12 +3,12 @@
 ghost use Rattle.std.specs.Prelude.{◌≡◌, pos, ◌+ℤ◌, ◌-ℤ◌, ◌≤ℤ◌, IfOk, OnOk, OnErr};
 ghost use Rattle.std.specs.List.{All};
 ghost use Rattle.std.specs.List.Retain.{IsFiltered};
-ghost use Rattle.blaze_table.specs.Canonical.{IsRangeMap};
-ghost use Rattle.blaze_table.specs.Count.{keys_in};
-ghost use Rattle.blaze_table.specs.Entries.{entry, shown_list};
+ghost use Rattle.blaze_entries.specs.Canonical.{IsRangeMap};
+ghost use Rattle.blaze_entries.specs.Count.{keys_in};
+ghost use Rattle.blaze_entries.specs.Entries.{entry, shown_list};
 ghost use Rattle.blaze_table.specs.Keeping.{AddsKey, KeepsMore};
-ghost use Rattle.blaze_table.specs.Painted.{ClonesAreAlike};
-ghost use Rattle.blaze_table.specs.Pairs.{pairs_of, pairs_from};
+ghost use Rattle.blaze_entries.specs.Painted.{ClonesAreAlike};
+ghost use Rattle.blaze_entries.specs.Pairs.{pairs_of, pairs_from};
 ghost use Rattle.blaze_table.specs.Retain.{AnswersAt, AnswersAtPair, IsCallableAtEach};
 ghost use Rattle.blaze_table.specs.Retain.{IsCallableAtPairs, IsKeyRetained, TakesPair};
 

@@ -1,7 +1,7 @@
 //! Lookups of a table's entries by a key.
 ghost use Rattle.std.specs.Prelude.{◌≡◌, ◌≤ℤ◌, int_lt, find, reverse, option_map};
-ghost use Rattle.blaze_table.specs.Ending.{ending_from, overlapping};
-ghost use Rattle.blaze_table.specs.Entries.{at, entry_at, shown_entry};
+ghost use Rattle.blaze_entries.specs.Ending.{ending_from, overlapping};
+ghost use Rattle.blaze_entries.specs.Entries.{at, entry_at, shown_entry};
 
 use super::RangeTable;
 use crate::search::{entries_ending_from, entry_holding};

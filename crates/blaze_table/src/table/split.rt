@@ -4,12 +4,12 @@ ghost use Rattle.std.specs.Option.{option_map};
 ghost use Rattle.blaze_entries.specs.Counted.{uncounted};
 ghost use Rattle.blaze_entries.specs.Found.{range_in, shown_ends};
 ghost use Rattle.blaze_entries.specs.Starts.{last_below};
-ghost use Rattle.blaze_table.specs.Canonical.{IsCanonical};
-ghost use Rattle.blaze_table.specs.Count.{keys_in};
-ghost use Rattle.blaze_table.specs.Cut.{IsSplit};
+ghost use Rattle.blaze_entries.specs.Canonical.{IsCanonical};
+ghost use Rattle.blaze_entries.specs.Count.{keys_in};
+ghost use Rattle.blaze_entries.specs.Cut.{IsSplit};
 ghost use Rattle.blaze_table.specs.LastBelow.{IsLastBelow};
-ghost use Rattle.blaze_table.specs.Painted.{ClonesAreAlike};
-ghost use Rattle.blaze_table.specs.Splice.{IsSplitOf};
+ghost use Rattle.blaze_entries.specs.Painted.{ClonesAreAlike};
+ghost use Rattle.blaze_entries.specs.Splice.{IsSplitOf};
 
 use super::RangeTable;
 use crate::count::count;

@@ -21,7 +21,7 @@ module _ {V : Type 0} (eq : V → V → Bool) (laws : IsEquivalence eq) where
   ends_glue answers (d ∷ []) p e h = by_met (is_met d p)
     where
       is_met : Entry (Option V) → Entry (Option V) → Bool
-      is_met d p = Rattle.blaze_table.specs.Splice.is_joinable (option_eq eq) d p
+      is_met d p = Rattle.blaze_entries.specs.Splice.is_joinable (option_eq eq) d p
 
       by_met : (b : Bool) → AreEndsOf answers (cond b (entry d.lo p.hi d.value ∷ []) (d ∷ p ∷ []))
       by_met true = (h, tt)

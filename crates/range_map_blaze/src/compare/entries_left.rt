@@ -1,9 +1,9 @@
 //! The tail of a table's entries: those that a comparison has not passed.
 ghost use Rattle.std.specs.Prelude.{◌≡◌, [], IfNone, slice_get};
 ghost use Rattle.std.specs.Option.{option_map};
-ghost use Rattle.blaze_table.specs.Canonical.{IsCanonical};
-ghost use Rattle.blaze_table.specs.Entries.{shown_range_entry};
-ghost use Rattle.blaze_table.specs.Splice.{after};
+ghost use Rattle.blaze_entries.specs.Canonical.{IsCanonical};
+ghost use Rattle.blaze_entries.specs.Entries.{shown_range_entry};
+ghost use Rattle.blaze_entries.specs.Splice.{after};
 ghost use Rattle.blaze_streams.specs.Choosing.{ahead_of};
 ghost use Rattle.blaze_streams.specs.Cursors.{Reaches};
 
@@ -22,8 +22,8 @@ pub struct EntriesLeft<'a, T: Integer, V: Eq> {
 impl<'a, T: Integer, V: Eq> Model for EntriesLeft<'a, T, V> {
     ghost use Rattle.std.specs.Prelude.{List, [], IfNone, ◌≡◌};
     ghost use Rattle.std.specs.Coded.{coded_list};
-    ghost use Rattle.blaze_table.specs.Entries.{Entry, entry_code};
-    ghost use Rattle.blaze_table.specs.Canonical.{IsCanonical};
+    ghost use Rattle.blaze_entries.specs.Entries.{Entry, entry_code};
+    ghost use Rattle.blaze_entries.specs.Canonical.{IsCanonical};
     ghost use Rattle.blaze_streams.specs.Choosing.{ahead_of};
 
     ghost Value = { List (Entry V) };

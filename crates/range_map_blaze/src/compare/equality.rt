@@ -3,9 +3,9 @@ ghost use Rattle.std.specs.Prelude.{◌≡◌, ◌↔◌, IsTrue};
 ghost use Rattle.std.proofs.Common.{rules};
 ghost use Rattle.std.specs.Cmp.Rules.{comparing};
 ghost use Rattle.std.specs.Ordering.{on};
-ghost use Rattle.blaze_table.specs.Entries.{SameContent};
-ghost use Rattle.blaze_table.specs.Equality.{same_entries};
-ghost use Rattle.blaze_table.specs.Laws.{IsShortest};
+ghost use Rattle.blaze_entries.specs.Entries.{SameContent};
+ghost use Rattle.blaze_entries.specs.Equality.{same_entries};
+ghost use Rattle.blaze_entries.specs.Laws.{IsShortest};
 
 use crate::map::RangeMapBlaze;
 use blaze_int::Integer;

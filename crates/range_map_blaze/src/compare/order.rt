@@ -3,7 +3,7 @@ ghost use Rattle.std.specs.Prelude.{◌≡◌, ◌↔◌, ◌+◌, ◌≤◌, �
 ghost use Rattle.std.specs.Cmp.{on_total, po};
 ghost use Rattle.std.specs.Ordering.{int_cmp, ordering_then, on, as_partial_cmp};
 ghost use Rattle.std.specs.declared.cmp.Ordering.TheVariants.{Equal};
-ghost use Rattle.blaze_table.specs.Entries.{SameContent, shown_range_entry};
+ghost use Rattle.blaze_entries.specs.Entries.{SameContent, shown_range_entry};
 ghost use Rattle.std.specs.Int.{int_min};
 ghost use Rattle.range_map_blaze.specs.Order.{pairs_cmp, map_cmp, first_cmp, IsComparedOn};
 ghost use Rattle.range_map_blaze.specs.OrderLaws.{equal_maps_tie, map_cmp_total};

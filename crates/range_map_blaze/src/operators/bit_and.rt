@@ -1,8 +1,8 @@
 //! `left & right`: the keys that have a value in both maps, with the value of `right`. `map & keys`: the keys of the map that are
 //! in the set. If an allocation fails, what is borrowed is unchanged and what is owned is dropped.
 ghost use Rattle.std.specs.Prelude.{IfOk};
-ghost use Rattle.blaze_table.specs.Chosen.{left_with_right, IsChosen};
-ghost use Rattle.blaze_table.specs.Painted.{ClonesAreAlike};
+ghost use Rattle.blaze_entries.specs.Chosen.{left_with_right, IsChosen};
+ghost use Rattle.blaze_entries.specs.Painted.{ClonesAreAlike};
 ghost use Rattle.range_map_blaze.specs.Made.{IsMade};
 
 use crate::map::RangeMapBlaze;

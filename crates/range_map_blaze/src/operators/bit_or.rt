@@ -1,7 +1,7 @@
 //! `left | right`: the keys of both maps, with the value of `right` where both have one. If an allocation fails, what is borrowed
 //! is unchanged and what is owned is dropped.
 ghost use Rattle.std.specs.Prelude.{IfOk};
-ghost use Rattle.blaze_table.specs.Painted.{ClonesAreAlike};
+ghost use Rattle.blaze_entries.specs.Painted.{ClonesAreAlike};
 ghost use Rattle.range_map_blaze.specs.Union.{IsUnion};
 ghost use Rattle.range_map_blaze.specs.Made.{IsMade};
 

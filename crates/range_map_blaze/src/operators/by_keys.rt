@@ -1,14 +1,15 @@
 //! The keys of a map that a table has, or lacks, with their values. Operators with a map and with a set share these functions.
 ghost use Rattle.std.specs.Prelude.{IfOk};
-ghost use Rattle.blaze_table.specs.Chosen.{left_with_right, left_alone, IsChosen};
-ghost use Rattle.blaze_table.specs.Painted.{ClonesAreAlike};
+ghost use Rattle.blaze_entries.specs.Chosen.{left_with_right, left_alone, IsChosen};
+ghost use Rattle.blaze_entries.specs.Painted.{ClonesAreAlike};
 
 use crate::map::RangeMapBlaze;
 use crate::operators::chosen::{borrowed_chosen, owned_chosen};
 use crate::operators::cut::cut_ranges;
 use crate::operators::few::is_narrow;
 use blaze_int::Integer;
-use blaze_streams::{LeftAlone, LeftWithRight, SeekingRangeValuesIter, ranges_of};
+use blaze_iters::{SeekingRangeValuesIter, ranges_of};
+use blaze_streams::{LeftAlone, LeftWithRight};
 use blaze_table::RangeTable;
 use std::alloc::AllocError;
 use std::cmp::min;

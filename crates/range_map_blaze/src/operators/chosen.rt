@@ -1,14 +1,13 @@
 //! The map of what a choice gives at each key of two streams. The left stream has the values of a borrowed map, or is an owned
 //! map. The borrowed map is a parameter because code that is generic over keys must know that the keys outlive the borrow.
 ghost use Rattle.std.specs.Prelude.{IfOk};
-ghost use Rattle.blaze_table.specs.Chosen.{IsChosen};
-ghost use Rattle.blaze_table.specs.Painted.{ClonesAreAlike};
+ghost use Rattle.blaze_entries.specs.Chosen.{IsChosen};
+ghost use Rattle.blaze_entries.specs.Painted.{ClonesAreAlike};
 
 use crate::map::RangeMapBlaze;
 use blaze_int::Integer;
-use blaze_streams::{
-    Choice, Owned, OwnedRangeValuesIter, SortedDisjointMap, ValueCarrier, entries_chosen_of,
-};
+use blaze_iters::OwnedRangeValuesIter;
+use blaze_streams::{Choice, Owned, SortedDisjointMap, ValueCarrier, entries_chosen_of};
 use blaze_table::RangeTable;
 use std::alloc::AllocError;
 

@@ -1,9 +1,9 @@
 //! `!map` and maps with one value on all keys that a map lacks. If an allocation fails, what is borrowed is unchanged and what is
 //! owned is dropped.
 ghost use Rattle.std.specs.Prelude.{[], IfOk};
-ghost use Rattle.blaze_table.specs.Complement.{IsComplement};
-ghost use Rattle.blaze_table.specs.Painted.{ClonesAreAlike};
-ghost use Rattle.blaze_table.specs.RangeSets.{unit_eq};
+ghost use Rattle.blaze_entries.specs.Complement.{IsComplement};
+ghost use Rattle.blaze_entries.specs.Painted.{ClonesAreAlike};
+ghost use Rattle.blaze_entries.specs.RangeSets.{unit_eq};
 ghost use Rattle.range_map_blaze.specs.Made.{IsMade};
 
 use crate::map::RangeMapBlaze;

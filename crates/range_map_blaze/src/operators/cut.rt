@@ -1,7 +1,7 @@
 //! A map without the keys of ranges, cut in place.
 ghost use Rattle.std.specs.Prelude.{IfOk, IsTrue};
-ghost use Rattle.blaze_table.specs.Chosen.{left_alone, IsChosen};
-ghost use Rattle.blaze_table.specs.Painted.{ClonesAreAlike};
+ghost use Rattle.blaze_entries.specs.Chosen.{left_alone, IsChosen};
+ghost use Rattle.blaze_entries.specs.Painted.{ClonesAreAlike};
 ghost use Rattle.range_map_blaze.specs.CutOut.{IsAlikeOff};
 
 use crate::map::RangeMapBlaze;

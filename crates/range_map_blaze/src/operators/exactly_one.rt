@@ -1,8 +1,8 @@
 //! The keys that exactly one of two maps has, with their values.
 ghost use Rattle.std.specs.Option.{option_xor};
 ghost use Rattle.std.specs.Prelude.{IfOk};
-ghost use Rattle.blaze_table.specs.Chosen.{IsChosen};
-ghost use Rattle.blaze_table.specs.Painted.{ClonesAreAlike};
+ghost use Rattle.blaze_entries.specs.Chosen.{IsChosen};
+ghost use Rattle.blaze_entries.specs.Painted.{ClonesAreAlike};
 
 use crate::map::RangeMapBlaze;
 use crate::operators::by_keys::{outside_keys, outside_keys_owned};
@@ -11,7 +11,8 @@ use crate::operators::few::is_narrow;
 use crate::operators::set_of::set_of;
 use crate::operators::union::union_owned;
 use blaze_int::Integer;
-use blaze_streams::{ExactlyOne, OwnedRangeValuesIter, ranges_of};
+use blaze_iters::{OwnedRangeValuesIter, ranges_of};
+use blaze_streams::ExactlyOne;
 use std::alloc::AllocError;
 
 /// The keys that exactly one of two borrowed maps has, by a merge of both. If one of them has few entries, removes them from a

@@ -1,8 +1,8 @@
 //! `left - right`: the keys of `left` that have no value in `right`, or are not in the set `right`. If an allocation fails, what
 //! is borrowed is unchanged and what is owned is dropped.
 ghost use Rattle.std.specs.Prelude.{IfOk};
-ghost use Rattle.blaze_table.specs.Chosen.{left_alone, IsChosen};
-ghost use Rattle.blaze_table.specs.Painted.{ClonesAreAlike};
+ghost use Rattle.blaze_entries.specs.Chosen.{left_alone, IsChosen};
+ghost use Rattle.blaze_entries.specs.Painted.{ClonesAreAlike};
 ghost use Rattle.range_map_blaze.specs.Made.{IsMade};
 
 use crate::map::RangeMapBlaze;

@@ -1,13 +1,14 @@
 //! The union of two maps: the value of the right map where it has one, and otherwise that of the left.
 ghost use Rattle.std.specs.Prelude.{IfOk};
-ghost use Rattle.blaze_table.specs.Painted.{ClonesAreAlike};
+ghost use Rattle.blaze_entries.specs.Painted.{ClonesAreAlike};
 ghost use Rattle.range_map_blaze.specs.Union.{IsUnion};
 
 use crate::map::RangeMapBlaze;
 use crate::operators::chosen::{borrowed_chosen, owned_chosen};
 use crate::operators::few::{are_few, cover_few, is_narrow};
 use blaze_int::Integer;
-use blaze_streams::{OwnedRangeValuesIter, RightFirst, SortedDisjointMap, ValueCarrier};
+use blaze_iters::OwnedRangeValuesIter;
+use blaze_streams::{RightFirst, SortedDisjointMap, ValueCarrier};
 use blaze_table::RangeTable;
 use std::alloc::AllocError;
 

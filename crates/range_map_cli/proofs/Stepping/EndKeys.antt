@@ -1,6 +1,6 @@
 -- The least and the greatest key that has a value, and how many have one.
 use Rattle.range_map_cli.proofs.Words.{◌≡◌, ℕ, zero, suc, ◌+◌, ℤ, pos, ◌+ℤ◌, ◌-ℤ◌, ◌≤ℤ◌, ◌<ℤ◌, cond, List, [], ◌∷◌, Option, Some, None, is_some, refl, ◌∙◌, sym, ap, subst, arith, ints, by_lt_z, nat_of-pos, Entry, at, AreKeys, at_over, at_under, by_place, first_mapped_key, last_mapped_key}
-use Rattle.blaze_table.specs.Count.{mapped}
+use Rattle.blaze_entries.specs.Count.{mapped}
 use Rattle.range_map_cli.specs.Steps.{least_mapped, greatest_mapped}
 
 module _ {A B : Type 0} (c : ℤ → Option A) (d : ℤ → Option B) (alike : (k : ℤ) → is_some (c k) ≡ is_some (d k)) where

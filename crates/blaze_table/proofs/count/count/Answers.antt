@@ -1,5 +1,4 @@
-use Rattle.blaze_table.proofs.Words.{subst, ap, IsCanonical, keys_in}
-use Rattle.blaze_table.proofs.Canonical.Counted.{some_keys, one_fits, one_more}
+use Rattle.blaze_table.proofs.Words.{subst, ap, IsCanonical, keys_in, some_keys, one_fits, one_more}
 use Rattle.blaze_table.proofs.count.count.Goals as goal
 
 pub plus-sum-requires : goal.plus-sum-requires

@@ -1,6 +1,4 @@
-use Rattle.blaze_table.proofs.Words.{common_steps, ap, subst, arith, IsCanonical, keys_in, shown_list}
-use Rattle.blaze_table.proofs.Canonical.Counted.{some_keys, one_fits, one_more}
-use Rattle.blaze_table.proofs.Pairs.Indexed.{from_index}
+use Rattle.blaze_table.proofs.Words.{common_steps, ap, subst, arith, IsCanonical, keys_in, shown_list, some_keys, one_fits, one_more, from_index}
 use Rattle.blaze_table.proofs.count.count_list.Goals as goal
 
 pub plus-sum-requires : goal.plus-sum-requires

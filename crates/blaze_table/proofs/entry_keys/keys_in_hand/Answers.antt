@@ -1,5 +1,4 @@
-use Rattle.blaze_table.proofs.Words.{sym, subst, drop_all, AreKeys, shown_list}
-use Rattle.blaze_table.proofs.Pairs.Indexed.{from_index}
+use Rattle.blaze_table.proofs.Words.{sym, subst, drop_all, AreKeys, shown_list, from_index}
 use Rattle.blaze_table.proofs.entry_keys.keys_in_hand.Goals as goal
 
 pub loop-start-init : goal.loop-start-init

@@ -1,4 +1,4 @@
-use Rattle.blaze_table.proofs.Canonical.ListLaws.{canonical_is_fewest}
+use Rattle.blaze_table.proofs.Words.{canonical_is_fewest}
 use Rattle.blaze_table.proofs.laws.canonical_is_fewest.Goals as goal
 
 pub returns : goal.returns

@@ -1,4 +1,4 @@
-use Rattle.blaze_table.proofs.Canonical.Shortest.{canonical_is_shortest}
+use Rattle.blaze_table.proofs.Words.{canonical_is_shortest}
 use Rattle.blaze_table.proofs.laws.canonical_is_shortest.Goals as goal
 
 pub returns : goal.returns

@@ -1,4 +1,4 @@
-use Rattle.blaze_table.proofs.Canonical.ListLaws.{canonical_is_unique}
+use Rattle.blaze_table.proofs.Words.{canonical_is_unique}
 use Rattle.blaze_table.proofs.laws.canonical_is_unique.Goals as goal
 
 pub returns : goal.returns

@@ -1,4 +1,4 @@
-use Rattle.blaze_table.proofs.Canonical.ListLaws.{lengths_are_mapped}
+use Rattle.blaze_table.proofs.Words.{lengths_are_mapped}
 use Rattle.blaze_table.proofs.laws.lengths_are_mapped.Goals as goal
 
 pub returns : goal.returns

@@ -1,4 +1,4 @@
-use Rattle.blaze_table.proofs.Canonical.Runs.{one_per_run, canonical}
+use Rattle.blaze_table.proofs.Words.{one_per_run, canonical}
 use Rattle.blaze_table.proofs.laws.structure_is_definition.Goals as goal
 
 pub returns : goal.returns

@@ -1,5 +1,4 @@
-use Rattle.blaze_table.proofs.Words.{◌≡◌, ◌∙◌, subst, option_map, shown_entry, entry_at, never_equal}
-use Rattle.blaze_table.proofs.Neighbours.Ending.{ending_clear, ending_held}
+use Rattle.blaze_table.proofs.Words.{◌≡◌, ◌∙◌, subst, option_map, shown_entry, entry_at, never_equal, ending_clear, ending_held}
 use Rattle.blaze_table.proofs.search.entries_ending_from.Goals as goal
 
 pub returns-in-Some : goal.returns-in-Some

@@ -1,8 +1,6 @@
-use Rattle.blaze_table.proofs.Words.{◌≡◌, ℕ, ℤ, pos, ◌+ℤ◌, ◌-ℤ◌, ◌≤ℤ◌, Bool, List, None, ap, arith, sym, ◌∙◌, IsEquivalence, ints, shown_plan, AreKeys, IsCanonical, keys_in, Entry, entry, before, after, IsPaintOf, IsTablePainted, joined_start}
-use Rattle.blaze_table.proofs.Canonical.Counted.{all_keys, keys_painted, painted_table}
+use Rattle.blaze_table.proofs.Words.{◌≡◌, ℕ, ℤ, pos, ◌+ℤ◌, ◌-ℤ◌, ◌≤ℤ◌, Bool, List, None, ap, arith, sym, ◌∙◌, IsEquivalence, ints, shown_plan, AreKeys, IsCanonical, keys_in, Entry, entry, before, after, IsPaintOf, IsTablePainted, joined_start, all_keys, keys_painted, painted_table, is_painted, painted_short}
 use Rattle.blaze_table.proofs.Neighbours.SeenInside.{inside_seen, inside_short, not_reached}
 use Rattle.blaze_table.proofs.Paints.Inside.{inside_painted}
-use Rattle.blaze_table.proofs.Paints.Painted.{is_painted, painted_short}
 use Rattle.blaze_table.proofs.Walks.Found.{like_above}
 use Rattle.blaze_table.proofs.Walks.Plans.{joined_within, place_is, joined_left}
 use Rattle.blaze_table.proofs.Paints.Widened.{paint_extends, paint_puts, end_up}

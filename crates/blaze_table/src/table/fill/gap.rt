@@ -1,8 +1,8 @@
 //! The gaps of a range, found from the least key up.
 ghost use Rattle.std.specs.Prelude.{◌≡◌, ◌⊎◌, ◌↔◌, pos, ◌+ℤ◌, ◌-ℤ◌, ◌≤ℤ◌, ◌<ℤ◌};
 ghost use Rattle.std.specs.Prelude.{IsTrue, MatchOption};
-ghost use Rattle.blaze_table.specs.Canonical.{AreKeys};
-ghost use Rattle.blaze_table.specs.Entries.{at};
+ghost use Rattle.blaze_entries.specs.Canonical.{AreKeys};
+ghost use Rattle.blaze_entries.specs.Entries.{at};
 ghost use Rattle.blaze_table.specs.Filled.{IsMappedFrom};
 ghost use Rattle.blaze_table.specs.Filling.{IsGapEnd, IsNextGap, IsOrdered};
 

@@ -1,11 +1,11 @@
 //! Entries inserted into gaps one by one, and removed again if an allocation fails.
 ghost use Rattle.std.specs.Prelude.{◌≡◌, [], ◌∷◌, ◌++◌, map, pos, ◌+ℤ◌, ◌<ℤ◌, None, IsTrue, OnOk, OnErr, IfOk};
 ghost use Rattle.blaze_entries.specs.Starts.{start_at, with_entry};
-ghost use Rattle.blaze_table.specs.Entries.{entry, at};
+ghost use Rattle.blaze_entries.specs.Entries.{entry, at};
 ghost use Rattle.blaze_table.specs.Filling.{AreThere, GoesBack, IsFilledBut, IsGapFilled};
 ghost use Rattle.blaze_table.specs.Filling.{IsNextGap, IsNoted, HasNoEdits, IsOrderedTable, without_all};
-ghost use Rattle.blaze_table.specs.Painted.{ClonesAreAlike};
-ghost use Rattle.blaze_table.specs.Table.{IsTable};
+ghost use Rattle.blaze_entries.specs.Painted.{ClonesAreAlike};
+ghost use Rattle.blaze_entries.specs.Table.{IsTable};
 ghost use Rattle.blaze_table.specs.Work.{IsCounted};
 
 use super::gap::{Gap, gap_above};

@@ -1,7 +1,7 @@
 //! Joins of touching entries with equal values.
 ghost use Rattle.std.specs.Prelude.{map};
-ghost use Rattle.blaze_table.specs.Canonical.{AreKeys};
-ghost use Rattle.blaze_table.specs.Entries.{at};
+ghost use Rattle.blaze_entries.specs.Canonical.{AreKeys};
+ghost use Rattle.blaze_entries.specs.Entries.{at};
 ghost use Rattle.blaze_table.specs.Filling.{AreAllJoined, IsJoinedAt, IsJoinedBut, IsJoint, IsOrdered};
 ghost use Rattle.blaze_table.specs.Work.{IsCounted};
 

@@ -1,10 +1,10 @@
 //! A value for the keys of a range that have none. The gaps first get separate entries, which may fail. Then touching
 //! equal entries are joined, which cannot fail.
 ghost use Rattle.std.specs.Prelude.{◌≡◌, ◌↔◌, ◌≤ℤ◌, false, Ok, IfOk, OnOk, OnErr, IsTrue};
-ghost use Rattle.blaze_table.specs.Count.{keys_in};
-ghost use Rattle.blaze_table.specs.Entries.{entry, at};
+ghost use Rattle.blaze_entries.specs.Count.{keys_in};
+ghost use Rattle.blaze_entries.specs.Entries.{entry, at};
 ghost use Rattle.blaze_table.specs.Filled.{IsFilled, IsMappedFrom};
-ghost use Rattle.blaze_table.specs.Painted.{ClonesAreAlike};
+ghost use Rattle.blaze_entries.specs.Painted.{ClonesAreAlike};
 ghost use Rattle.blaze_table.specs.Work.{IsCounted};
 
 mod gap;

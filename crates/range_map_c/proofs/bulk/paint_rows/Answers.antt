@@ -4,7 +4,7 @@ use Rattle.std.specs.Range.{range_inclusive_start, range_inclusive_end}
 use Rattle.std.proofs.Common.{◌≡◌, ◌∙◌, ℕ, ℤ, pos, take, slice_index_or, subst, rules, arith}
 use Rattle.std.proofs.lemmas.Int.{ints}
 use Rattle.blaze_entries.specs.Entries.{entry}
-use Rattle.blaze_table.specs.Painted.{IsPainted}
+use Rattle.blaze_entries.specs.Painted.{IsPainted}
 use Rattle.range_map_c.specs.Handle.{least_key, greatest_key}
 use Rattle.range_map_c.specs.Tables.{rows}
 use Rattle.range_map_c.proofs.Parts.{none_painted, more_painted, rows_next, part_of}

@@ -4,8 +4,8 @@ use Rattle.std.specs.Range.{range_inclusive_end}
 use Rattle.std.proofs.Common.{◌≡◌, ◌+◌, ◌<◌, ◌^◌, ◌∙◌, ℤ, pos, ◌+ℤ◌, ◌≤ℤ◌, sym, ap, rules, arith, w64, to_z, of_z}
 use Rattle.std.proofs.lemmas.Int.{ints}
 use Rattle.blaze_entries.specs.Overlap.{covered_keys}
-use Rattle.blaze_table.specs.Ending.{overlapping}
-use Rattle.blaze_table.proofs.Canonical.Runs.{canonical}
+use Rattle.blaze_entries.specs.Ending.{overlapping}
+use Rattle.blaze_entries.proofs.Canonical.Runs.{canonical}
 use Rattle.range_map_c.specs.Handle.{least_key, greatest_key}
 use Rattle.range_map_c.proofs.Within.{covered_empty, covered_overlapping, covered_some, covered_fits, counted_next}
 use Rattle.range_map_c.proofs.counts.count_within.Goals as goal

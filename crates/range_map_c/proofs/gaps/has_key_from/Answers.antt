@@ -3,8 +3,8 @@ use Rattle.std.specs.Cmp.{nat_eq_equiv}
 use Rattle.std.specs.Range.{range_inclusive_end}
 use Rattle.std.proofs.Common.{◌≡◌, ◌∙◌, ap, sym, rules, arith, w64, to_z, of_z}
 use Rattle.std.proofs.lemmas.Int.{ints}
-use Rattle.blaze_table.specs.Ending.{overlapping}
-use Rattle.blaze_table.proofs.Canonical.Runs.{canonical}
+use Rattle.blaze_entries.specs.Ending.{overlapping}
+use Rattle.blaze_entries.proofs.Canonical.Runs.{canonical}
 use Rattle.range_map_c.proofs.Within.{no_key_from, some_key_from}
 use Rattle.range_map_c.proofs.gaps.has_key_from.Goals as goal
 

@@ -4,8 +4,8 @@ use Rattle.std.specs.Range.{range_inclusive_end}
 use Rattle.std.proofs.Common.{◌≡◌, ◌<◌, ◌∙◌, refl, ℤ, pos, ◌-ℤ◌, ◌≤ℤ◌, ◌<ℤ◌, sym, ap, subst, rules, arith, w64, to_z, of_z}
 use Rattle.std.proofs.lemmas.Int.{ints}
 use Rattle.blaze_entries.specs.Entries.{at}
-use Rattle.blaze_table.specs.Ending.{overlapping}
-use Rattle.blaze_table.proofs.Canonical.Runs.{canonical}
+use Rattle.blaze_entries.specs.Ending.{overlapping}
+use Rattle.blaze_entries.proofs.Canonical.Runs.{canonical}
 use Rattle.range_map_c.proofs.FreeRanges.{IsSearched, searched_none, found_after, nothing_before, searched_before, found_first, none_left}
 use Rattle.range_map_c.proofs.gaps.last_gap.Goals as goal
 

@@ -4,8 +4,8 @@ use Rattle.std.specs.Range.{range_inclusive_start}
 use Rattle.std.proofs.Common.{◌≡◌, ◌∙◌, Some, ap, arith, w64, to_z, of_z}
 use Rattle.std.proofs.lemmas.Int.{ints}
 use Rattle.blaze_entries.specs.Entries.{entry}
-use Rattle.blaze_table.specs.Ending.{overlapping}
-use Rattle.blaze_table.proofs.Canonical.Runs.{canonical}
+use Rattle.blaze_entries.specs.Ending.{overlapping}
+use Rattle.blaze_entries.proofs.Canonical.Runs.{canonical}
 use Rattle.range_map_c.specs.Handle.{least_key, greatest_key}
 use Rattle.range_map_c.specs.Told.{last_of}
 use Rattle.range_map_c.proofs.Within.{last_is}

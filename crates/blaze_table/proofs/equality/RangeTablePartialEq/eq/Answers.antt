@@ -1,4 +1,4 @@
-use Rattle.blaze_table.proofs.Canonical.SameLists.{content_decides}
+use Rattle.blaze_table.proofs.Words.{content_decides}
 use Rattle.blaze_table.proofs.equality.RangeTablePartialEq.eq.Goals as goal
 
 pub returns-clause-content : goal.returns-clause-content

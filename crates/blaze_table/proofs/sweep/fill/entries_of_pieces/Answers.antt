@@ -1,7 +1,7 @@
 use Rattle.std.proofs.Common.{◌≡◌, [], ◌∷◌, ℕ, sym, subst, ◌∙◌, pos, ◌+ℤ◌}
 use Rattle.std.proofs.lemmas.List.{nil_from_length}
 use Rattle.std.specs.Vec.Iter.{into_iter_items}
-use Rattle.blaze_table.specs.Entries.{shown_entry, shown_list}
+use Rattle.blaze_entries.specs.Entries.{shown_entry, shown_list}
 use Rattle.blaze_table.proofs.Sweeping.Filling.{IsFilledSoFar, filled_none, filled_more, filled_all, some_value}
 use Rattle.blaze_table.proofs.sweep.fill.entries_of_pieces.Goals as goal
 

@@ -1,6 +1,6 @@
 use Rattle.std.proofs.Common.{pos, ◌+ℤ◌}
 use Rattle.std.specs.Vec.Iter.{into_iter_items}
-use Rattle.blaze_table.specs.Entries.{shown_list}
+use Rattle.blaze_entries.specs.Entries.{shown_list}
 use Rattle.blaze_table.proofs.Sweeping.Filling.{IsFilledSoFar}
 use Rattle.blaze_table.proofs.sweep.fill.entries_of_pieces.Given as goal
 

@@ -1,6 +1,6 @@
 use Rattle.std.proofs.Common.{◌≡◌, ◌-◌, length, ap, subst, ◌∙◌, arith, slice_set, Some}
 use Rattle.std.proofs.lemmas.List.{length-map, length-set, set-set}
-use Rattle.blaze_table.specs.Entries.{entry, shown_entry, SameOption, shown_list}
+use Rattle.blaze_entries.specs.Entries.{entry, shown_entry, SameOption, shown_list}
 use Rattle.blaze_table.specs.PairValue.{moved_to, value_in}
 use Rattle.blaze_table.specs.declared.sweep.pair_value.PairValue.TheVariants.{Moved}
 use Rattle.blaze_table.proofs.Sweeping.PairValues.{within_held, glue_some}

@@ -3,7 +3,7 @@ use Rattle.std.proofs.Common.{◌≡◌, Some, sym, subst, length, refl, ◌∙�
 use Rattle.std.specs.Prelude.{slice_get, IsSome}
 use Rattle.std.proofs.lemmas.List.{length-map}
 use Rattle.std.proofs.lemmas.Option.{slice_get_read}
-use Rattle.blaze_table.specs.Entries.{SameOption, shown_entry, shown_list}
+use Rattle.blaze_entries.specs.Entries.{SameOption, shown_entry, shown_list}
 use Rattle.blaze_table.specs.declared.sweep.pair_value.PairValue.TheVariants.{Present, Moved}
 use Rattle.blaze_table.specs.PairValue.{value_of_pair}
 use Rattle.blaze_table.proofs.Sweeping.PairValues.{within_held, within_entries, moved_value}

@@ -2,7 +2,7 @@ use Rattle.std.proofs.Common.{◌≡◌, Some, refl, length, arith}
 use Rattle.std.specs.Prelude.{slice_get}
 use Rattle.std.specs.BinaryHeap.{heap_items}
 use Rattle.std.proofs.lemmas.Option.{slice_get_read}
-use Rattle.blaze_table.specs.Entries.{shown_list}
+use Rattle.blaze_entries.specs.Entries.{shown_list}
 use Rattle.blaze_table.proofs.Sweeping.Underway.{underway_none, waits_for, all_wait, underway_more}
 use Rattle.blaze_table.proofs.sweep.pieces.pieces_of.Goals as goal
 

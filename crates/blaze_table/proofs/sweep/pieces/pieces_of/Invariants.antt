@@ -1,6 +1,6 @@
 use Rattle.std.proofs.Common.{length, ◌-◌, ◌≤◌}
 use Rattle.std.specs.BinaryHeap.{IsHeap, heap_items}
-use Rattle.blaze_table.specs.Entries.{shown_list}
+use Rattle.blaze_entries.specs.Entries.{shown_list}
 use Rattle.blaze_table.specs.Pieces.{place_cmp, IsSweptSoFar}
 use Rattle.blaze_table.proofs.sweep.pieces.pieces_of.Given as goal
 

@@ -1,12 +1,12 @@
+use Rattle.blaze_table.proofs.Words.{step_up, step_to, step_past, weaker}
 use Rattle.std.proofs.Common.{◌≡◌, ◌≤ℤ◌, ◌<ℤ◌, ◌+ℤ◌, pos, ◌∙◌, refl, sym, subst, arith}
 use Rattle.std.specs.Prelude.{◌∷◌, IfSome, IsPermutation, IsSome}
 use Rattle.std.proofs.lemmas.Option.{slice_get_within}
 use Rattle.std.specs.BinaryHeap.{heap_items}
 use Rattle.std.proofs.lemmas.Int.{ints}
 use Rattle.blaze_int.proofs.Comparisons.{le_holds, le_fails, lt_holds, lt_fails}
-use Rattle.blaze_table.specs.Entries.{shown_list}
+use Rattle.blaze_entries.specs.Entries.{shown_list}
 use Rattle.blaze_table.specs.Pieces.{ArePieces}
-use Rattle.blaze_table.proofs.Sweeping.Orders.{step_up, step_to, step_past, weaker}
 use Rattle.blaze_table.proofs.Sweeping.Pieces.{pieces_to, pieces_rest}
 use Rattle.blaze_table.proofs.Sweeping.Waitings.{top_pair, top_read, waiting_from, waiting_less}
 use Rattle.blaze_table.proofs.sweep.pieces.sweep_to.Goals as goal

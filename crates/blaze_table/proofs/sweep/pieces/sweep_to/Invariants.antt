@@ -1,6 +1,6 @@
 use Rattle.std.proofs.Common.{◌≤ℤ◌}
 use Rattle.std.specs.BinaryHeap.{IsHeap, heap_items, heap_len}
-use Rattle.blaze_table.specs.Entries.{shown_list}
+use Rattle.blaze_entries.specs.Entries.{shown_list}
 use Rattle.blaze_table.specs.Pieces.{place_cmp, IsWaiting, ArePieces}
 use Rattle.blaze_table.proofs.sweep.pieces.sweep_to.Given as goal
 

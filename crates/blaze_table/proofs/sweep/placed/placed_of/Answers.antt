@@ -4,7 +4,7 @@ use Rattle.std.proofs.lemmas.List.Elements.{All-weaker}
 use Rattle.std.proofs.lemmas.List.Sorted.{answers_always}
 use Rattle.std.specs.Vec.Iter.{into_iter_items}
 use Rattle.blaze_int.proofs.Comparisons.{le_holds, le_fails}
-use Rattle.blaze_table.specs.Entries.{shown_entry, shown_list}
+use Rattle.blaze_entries.specs.Entries.{shown_entry, shown_list}
 use Rattle.blaze_table.specs.Pieces.{IsPlacedPair}
 use Rattle.blaze_table.proofs.Sweeping.Placed.{head_of_drop, placed_none, placed_skip, placed_more, placed_sorted, ends_are_keys, ascends}
 use Rattle.blaze_table.proofs.sweep.placed.placed_of.Goals as goal

@@ -1,6 +1,6 @@
 use Rattle.std.proofs.Common.{◌≡◌, ◌+◌, length, drop}
 use Rattle.std.specs.Vec.Iter.{into_iter_items}
-use Rattle.blaze_table.specs.Entries.{shown_list}
+use Rattle.blaze_entries.specs.Entries.{shown_list}
 use Rattle.blaze_table.specs.Pieces.{ArePairsPlacedBelow}
 use Rattle.blaze_table.proofs.sweep.placed.placed_of.Given as goal
 

@@ -1,6 +1,4 @@
-use Rattle.blaze_table.proofs.Words.{◌≡◌, ◌-◌, arith, slice_set, sym, ap, ◌∙◌, ◌+ℤ◌, pos, Bool, true, false, refl, not, set-get_or, int_eq, vec_len, vec_items, and_left, and_right, entry, shown_entry}
-use Rattle.blaze_table.proofs.Neighbours.Glued.{and_both}
-use Rattle.blaze_table.proofs.Sweeping.Pushed.{has_last, pushed_joined, pushed_apart}
+use Rattle.blaze_table.proofs.Words.{◌≡◌, ◌-◌, arith, slice_set, sym, ap, ◌∙◌, ◌+ℤ◌, pos, Bool, true, false, refl, not, set-get_or, int_eq, vec_len, vec_items, and_left, and_right, entry, shown_entry, and_both, has_last, pushed_joined, pushed_apart}
 use Rattle.blaze_table.proofs.sweep.push.lengthen_entry.Goals as goal
 use Rattle.blaze_table.proofs.sweep.push.lengthen_entry.Goals.{then-not-is_next-via-then-not-is_next, then-not-is_next-via-else-not-is_next+then-ne}
 

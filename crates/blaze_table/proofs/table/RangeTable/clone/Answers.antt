@@ -1,5 +1,4 @@
-use Rattle.blaze_table.proofs.Words.{subst, CountedEntries, SameEntries}
-use Rattle.blaze_table.proofs.Canonical.Clones.{same_cloned, table_as}
+use Rattle.blaze_table.proofs.Words.{subst, CountedEntries, SameEntries, same_cloned, table_as}
 use Rattle.blaze_table.proofs.table.RangeTable.clone.Goals as goal
 
 pub invariant_of-result : goal.invariant_of-result

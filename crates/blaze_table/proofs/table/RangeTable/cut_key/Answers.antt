@@ -1,5 +1,4 @@
-use Rattle.blaze_table.proofs.Words.{subst, CountedEntries, IsKeyRemoved}
-use Rattle.blaze_table.proofs.Canonical.RangeMaps.{cut_map}
+use Rattle.blaze_table.proofs.Words.{subst, CountedEntries, IsKeyRemoved, cut_map}
 use Rattle.blaze_table.proofs.table.RangeTable.cut_key.Goals as goal
 
 pub returns-clause-ok : goal.returns-clause-ok

@@ -1,5 +1,4 @@
-use Rattle.blaze_table.proofs.Words.{map, sym, subst, ap, ◌∙◌, CountedEntries, entry, at, IsFilled, IsMappedFrom, IsCounted}
-use Rattle.blaze_table.proofs.Canonical.RangeMaps.{range_map}
+use Rattle.blaze_table.proofs.Words.{map, sym, subst, ap, ◌∙◌, CountedEntries, entry, at, IsFilled, IsMappedFrom, IsCounted, range_map}
 use Rattle.blaze_table.proofs.Fills.Filled.{filled_none}
 use Rattle.blaze_table.proofs.Fills.Fillings.{filled_whole, gap_is_not_held}
 use Rattle.blaze_table.proofs.Fills.Ordered.{ordered_of}

@@ -1,5 +1,4 @@
-use Rattle.blaze_table.proofs.Words.{◌≡◌, ◌∙◌, ℤ, ap, refl, Bor, Option, Some, None, option_map, CountedEntries, Entry, at, shown_entry}
-use Rattle.blaze_table.proofs.Canonical.Lookup.{value-entry_at}
+use Rattle.blaze_table.proofs.Words.{◌≡◌, ◌∙◌, ℤ, ap, refl, Bor, Option, Some, None, option_map, CountedEntries, Entry, at, shown_entry, value-entry_at}
 use Rattle.blaze_table.proofs.Fills.Ordered.{ordered_of}
 use Rattle.blaze_table.proofs.table.RangeTable.find.Goals as goal
 

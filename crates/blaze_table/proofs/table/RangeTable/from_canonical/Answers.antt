@@ -1,7 +1,4 @@
-use Rattle.blaze_table.proofs.Words.{◌∙◌, sym, ap, subst, arith, ints, IsCanonical, AreKeys, keys_in, CountedEntries, shown_list}
-use Rattle.blaze_table.proofs.Canonical.Counted.{keys_among}
-use Rattle.blaze_table.proofs.Canonical.RangeMaps.{starts_ascend}
-use Rattle.blaze_table.proofs.Canonical.Runs.{canonical}
+use Rattle.blaze_table.proofs.Words.{◌∙◌, sym, ap, subst, arith, ints, IsCanonical, AreKeys, keys_in, CountedEntries, shown_list, keys_among, starts_ascend, canonical}
 use Rattle.blaze_table.proofs.table.RangeTable.from_canonical.Goals as goal
 
 pub count_list-len-requires-clause-canonical : goal.count_list-len-requires-clause-canonical

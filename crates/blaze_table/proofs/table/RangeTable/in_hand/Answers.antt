@@ -1,5 +1,4 @@
-use Rattle.blaze_table.proofs.Words.{subst, IsRangeMap, CountedEntries}
-use Rattle.blaze_table.proofs.Canonical.RangeMaps.{range_map}
+use Rattle.blaze_table.proofs.Words.{subst, IsRangeMap, CountedEntries, range_map}
 use Rattle.blaze_table.proofs.table.RangeTable.in_hand.Goals as goal
 
 pub returns : goal.returns

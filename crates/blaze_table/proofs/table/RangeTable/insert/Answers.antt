@@ -1,5 +1,4 @@
-use Rattle.blaze_table.proofs.Words.{◌≡◌, ◌∙◌, ap, sym, subst, arith, ints, CountedEntries, entry, IsPainted, IsInside, IsCountedPaint}
-use Rattle.blaze_table.proofs.Canonical.RangeMaps.{painted_map}
+use Rattle.blaze_table.proofs.Words.{◌≡◌, ◌∙◌, ap, sym, subst, arith, ints, CountedEntries, entry, IsPainted, IsInside, IsCountedPaint, painted_map}
 use Rattle.blaze_table.proofs.Walks.FewLooks.{counted, looked_by_walk}
 use Rattle.blaze_table.proofs.Walks.Found.{has_ranges, has_keys, walked, found_above, found_still}
 use Rattle.blaze_table.proofs.table.RangeTable.insert.Goals as goal

@@ -1,5 +1,4 @@
-use Rattle.blaze_table.proofs.Words.{◌≡◌, ◌∙◌, subst, arith, ints, mapped_keys, CountedEntries, at}
-use Rattle.blaze_table.proofs.Canonical.ListLaws.{lengths_mapped}
+use Rattle.blaze_table.proofs.Words.{◌≡◌, ◌∙◌, subst, arith, ints, mapped_keys, CountedEntries, at, lengths_mapped}
 use Rattle.blaze_table.proofs.table.RangeTable.len.Goals as goal
 
 pub returns-clause-mapped : goal.returns-clause-mapped

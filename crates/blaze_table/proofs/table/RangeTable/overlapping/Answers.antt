@@ -1,6 +1,5 @@
-use Rattle.blaze_table.proofs.Words.{◌≡◌, ◌≤ℤ◌, ◌∙◌, arith, ap, subst, option_map, ints, up_to, CountedEntries, overlapping, shown_entry, entry_at, never_equal}
+use Rattle.blaze_table.proofs.Words.{◌≡◌, ◌≤ℤ◌, ◌∙◌, arith, ap, subst, option_map, ints, up_to, CountedEntries, overlapping, shown_entry, entry_at, never_equal, ending_clear, ending_held, found_from}
 use Rattle.blaze_table.proofs.Fills.Ordered.{ordered_of}
-use Rattle.blaze_table.proofs.Neighbours.Ending.{ending_clear, ending_held, found_from}
 use Rattle.blaze_table.proofs.table.RangeTable.overlapping.Goals as goal
 
 pub entry_holding-requires : goal.entry_holding-requires

@@ -1,5 +1,4 @@
-use Rattle.blaze_table.proofs.Words.{◌≡◌, true, false, ◌∙◌, ap, sym, subst, inl, inr, CountedEntries, entry, IsPainted, IsInside, GoesOnUnequal, IsCountedPaint}
-use Rattle.blaze_table.proofs.Canonical.RangeMaps.{painted_map}
+use Rattle.blaze_table.proofs.Words.{◌≡◌, true, false, ◌∙◌, ap, sym, subst, inl, inr, CountedEntries, entry, IsPainted, IsInside, GoesOnUnequal, IsCountedPaint, painted_map}
 use Rattle.blaze_table.proofs.Walks.FewLooks.{counted, looked_by_walk}
 use Rattle.blaze_table.proofs.Walks.Found.{has_ranges, has_keys, walked, found_above, found_still, not_inside}
 use Rattle.blaze_table.proofs.table.RangeTable.paint.Goals as goal

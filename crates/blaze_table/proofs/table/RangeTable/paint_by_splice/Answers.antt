@@ -1,5 +1,4 @@
-use Rattle.blaze_table.proofs.Words.{◌∙◌, ap, sym, subst, CountedEntries, entry, IsPainted, IsInside, IsCountedPaint}
-use Rattle.blaze_table.proofs.Canonical.RangeMaps.{painted_map}
+use Rattle.blaze_table.proofs.Words.{◌∙◌, ap, sym, subst, CountedEntries, entry, IsPainted, IsInside, IsCountedPaint, painted_map}
 use Rattle.blaze_table.proofs.Walks.FewLooks.{counted}
 use Rattle.blaze_table.proofs.Walks.Found.{found_still, not_inside}
 use Rattle.blaze_table.proofs.table.RangeTable.paint_by_splice.Goals as goal

@@ -1,5 +1,4 @@
-use Rattle.blaze_table.proofs.Words.{if_err, ◌-◌, length, subst, ap, arith, slice_get, CountedEntries, IsLastKeyRemoved, IsAmongOthers, IfSome}
-use Rattle.blaze_table.proofs.Canonical.RangeMaps.{cut_map}
+use Rattle.blaze_table.proofs.Words.{if_err, ◌-◌, length, subst, ap, arith, slice_get, CountedEntries, IsLastKeyRemoved, IsAmongOthers, IfSome, cut_map}
 use Rattle.blaze_table.proofs.Cuts.Ends.{last_refused, last_there}
 use Rattle.blaze_table.proofs.table.RangeTable.pop_last.Goals as goal
 

@@ -1,7 +1,4 @@
-use Rattle.blaze_table.proofs.Words.{◌≡◌, arith, ints, ap, sym, ◌∙◌, length, keys_in, common_steps}
-use Rattle.blaze_table.proofs.Canonical.Counted.{keys_among}
-use Rattle.blaze_table.proofs.Canonical.Kept.{canonical_filtered, are_keys_filtered, all_filtered}
-use Rattle.blaze_table.proofs.Canonical.RangeMaps.{range_map}
+use Rattle.blaze_table.proofs.Words.{◌≡◌, arith, ints, ap, sym, ◌∙◌, length, keys_in, common_steps, keys_among, canonical_filtered, are_keys_filtered, all_filtered, range_map}
 use Rattle.blaze_table.proofs.table.RangeTable.retain_entries.Goals as goal
 
 pub count-len-requires-clause-canonical : goal.count-len-requires-clause-canonical

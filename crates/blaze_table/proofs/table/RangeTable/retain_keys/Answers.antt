@@ -1,7 +1,6 @@
-use Rattle.blaze_table.proofs.Words.{◌∙◌, refl, sym, subst, ap, pos, All, items_where_true, CountedEntries, shown_list, pair_list, AnswersAtPair, IsKeyRetained, TakesPair, IsTable}
+use Rattle.blaze_table.proofs.Words.{◌∙◌, refl, sym, subst, ap, pos, All, items_where_true, CountedEntries, shown_list, pair_list, AnswersAtPair, IsKeyRetained, TakesPair, IsTable, range_map, starts_ascend}
 use Rattle.blaze_table.proofs.Pairs.AtPairs.{all_pairs}
 use Rattle.blaze_table.proofs.Pairs.Keeping.{IsReached, reached_none, reached_order, reached_room, reached_more, reached_table, reached_pairs}
-use Rattle.blaze_table.proofs.Canonical.RangeMaps.{range_map, starts_ascend}
 use Rattle.blaze_table.proofs.table.RangeTable.retain_keys.Goals as goal
 
 pub loop-start-init : goal.loop-start-init

@@ -1,5 +1,4 @@
-use Rattle.blaze_table.proofs.Words.{subst, CountedEntries, IsSplit}
-use Rattle.blaze_table.proofs.Canonical.RangeMaps.{split_maps}
+use Rattle.blaze_table.proofs.Words.{subst, CountedEntries, IsSplit, split_maps}
 use Rattle.blaze_table.proofs.Cuts.Splitting.{is_split, split_counted, split_tables}
 use Rattle.blaze_table.proofs.table.RangeTable.split_at.Goals as goal
 

@@ -1,5 +1,4 @@
-use Rattle.blaze_table.proofs.Words.{arith, ints}
-use Rattle.blaze_table.proofs.Canonical.Counted.{some_keys}
+use Rattle.blaze_table.proofs.Words.{arith, ints, some_keys}
 use Rattle.blaze_table.proofs.table.split.count_parts.Goals as goal
 
 pub count-below_len-requires-clause-fits : goal.count-below_len-requires-clause-fits

@@ -1,6 +1,4 @@
-use Rattle.blaze_table.proofs.Words.{unit_eq}
-use Rattle.blaze_table.proofs.Canonical.Parts.{IsRangeMap-front}
-use Rattle.blaze_table.proofs.Pairs.UnitLaws.{unit_laws}
+use Rattle.blaze_table.proofs.Words.{unit_eq, IsRangeMap-front, unit_laws}
 use Rattle.blaze_table.proofs.set.into_ranges_iter.IntoRangesIterDoubleEndedIterator.next_back.Goals as goal
 
 pub invariant_of-self-2 : goal.invariant_of-self-2

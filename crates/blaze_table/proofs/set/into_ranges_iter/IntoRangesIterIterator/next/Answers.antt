@@ -1,6 +1,4 @@
-use Rattle.blaze_table.proofs.Words.{unit_eq}
-use Rattle.blaze_table.proofs.Canonical.Parts.{IsRangeMap-rest}
-use Rattle.blaze_table.proofs.Pairs.UnitLaws.{unit_laws}
+use Rattle.blaze_table.proofs.Words.{unit_eq, IsRangeMap-rest, unit_laws}
 use Rattle.blaze_table.proofs.set.into_ranges_iter.IntoRangesIterIterator.next.Goals as goal
 
 pub invariant_of-self-2 : goal.invariant_of-self-2

@@ -1,4 +1,4 @@
-use Rattle.blaze_table.proofs.Words.{map, arith, refl, ints}
+use Rattle.blaze_table.proofs.Words.{map, arith, refl, ints, all_keys, all_fit}
 use Rattle.blaze_table.proofs.Fills.Fillings.{beside_next, filling_first, filling_next, filling_last, room_more, table_more}
 use Rattle.blaze_table.proofs.Fills.HeldKeys.{nearer}
 use Rattle.blaze_table.proofs.Fills.Ordered.{ordered_table}
@@ -6,7 +6,6 @@ use Rattle.blaze_table.proofs.Fills.Puts.{absent_in}
 use Rattle.blaze_table.proofs.Fills.TakenBack.{map_none}
 use Rattle.blaze_table.proofs.Fills.Upwards.{is_under}
 use Rattle.blaze_table.proofs.Walks.Worked.{counted_none, counted_then}
-use Rattle.blaze_table.proofs.Canonical.Counted.{all_keys, all_fit}
 use Rattle.blaze_table.proofs.table.fill.inserts.insert_all.Goals as goal
 
 pub loop-next-init : goal.loop-next-init

@@ -1,0 +1,3 @@
+pub mod Splices
+pub mod Kept
+pub mod Painted

@@ -1,5 +1,0 @@
-use Rattle.blaze_streams.proofs.Words.{IsRangeMap-front}
-use Rattle.blaze_streams.proofs.tables.range_values.RangeValuesIterDoubleEndedIterator.next_back.Goals as goal
-
-pub invariant_of-self-2 : goal.invariant_of-self-2
-invariant_of-self-2 g c = IsRangeMap-front g.V.PartialEq.eq g.met.V.Eq.laws _ _ _ _ (rw c.in_ok-start.ensures.steps at c.self.invariant)

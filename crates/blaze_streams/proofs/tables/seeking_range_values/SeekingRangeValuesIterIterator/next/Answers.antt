@@ -1,6 +1,0 @@
-use Rattle.blaze_streams.proofs.Words.{subst, IsLastPart}
-use Rattle.blaze_streams.proofs.Seeking.{part_rest}
-use Rattle.blaze_streams.proofs.tables.seeking_range_values.SeekingRangeValuesIterIterator.next.Goals as goal
-
-pub invariant_of-self-2 : goal.invariant_of-self-2
-invariant_of-self-2 g c = part_rest _ _ _ (subst (IsLastPart c.self.inside.table.now.entries) c.in_ok-start.ensures.steps c.self.invariant)

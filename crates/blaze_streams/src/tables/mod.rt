@@ -1,8 +1,0 @@
-//! The entries and the keys of tables and sets as streams.
-pub mod entry_ends;
-pub mod into_range_values;
-pub mod key_ranges;
-pub mod owned_range_values;
-pub mod range_values;
-pub mod seeking_range_values;
-pub mod set_ranges;
