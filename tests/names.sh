@@ -3,7 +3,7 @@
 # - the calls of the map, of sets, of tables and of many maps, and the functions that `range_map_blaze` and `range_map_cli` export:
 #   docs/CALLS.md has them; a program or test calls each of the map; tests/refusals.txt or tests/refused_calls.txt has each that may
 #   fail to allocate;
-# - the words of the lines of crates/script: its stdin, tests/bad_lines.txt, tests/refusals.txt and docs/SCRIPT.md have them;
+# - the words of the lines of a script: crates/script/stdin, tests/bad_lines.txt, tests/refusals.txt and docs/SCRIPT.md have them;
 # - the functions of bindings/range_map.h: crates/range_map_c and bindings/rust have those that the library exports, docs/CALLS.md and the
 #   tests in C those for users;
 # - the names in Rattle, C++, Rust and Python in the last table of docs/CALLS.md: the map or the binding of the language has them, and a
@@ -89,7 +89,7 @@ has_each docs/CALLS.md "$(exports_of range_map_blaze && exports_of range_map_cli
 has_no_other docs/CALLS.md "$(on_page "##" "${others[@]}")" "$functions"
 
 # ---- The words of a script
-words="$(grep -hv 'push_str\|map_or' crates/script/src/calls/*.rt | grep -oE '"([a-z_]*[a-z]|[|&!^-]|==)"' | tr -d '"' | sort -u)"
+words="$(grep -hv 'push_str\|map_or' crates/script{/src/calls,_calls/src,_makes/src}/*.rt | grep -oE '"([a-z_]*[a-z]|[|&!^-]|==)"' | tr -d '"' | sort -u)"
 has_each crates/script/stdin "$words" "$(calls_in crates/script/stdin)"
 has_each tests/bad_lines.txt "$words" "$(calls_in tests/bad_lines.txt)"
 has_each docs/SCRIPT.md "$words" "$(grep -oE '`[^`]*`|<code>[^<]*' docs/SCRIPT.md | sed 's/&#124;/|/g' | tr -c 'a-z_|&!^=\n-' '\n')"
@@ -99,7 +99,7 @@ has_no_other tests/refusals.txt "$swept" "$words"$'\n'"$(sed 's/^/into_/' <<<"$w
 
 # ---- Calls that a program makes, and calls that may fail to allocate
 by_lines="$(sed -E 's/^many_//; s/^\|$/bitor/; s/^&$/bitand/; s/^-$/sub/; s/^\^$/bitxor/; s/^!$/not/; s/^==$/eq/; s/^list$/fmt/; s/^hashes_as$/hash/' <<<"$swept")"
-made="$(grep -rhoE '[.:][a-z_0-9]+' crates/{script,check_refused_calls}/src tests/{examples,library,crate_examples} | tr -d '.:')"
+made="$(grep -rhoE '[.:][a-z_0-9]+' crates/{script,script_calls,script_makes,check_refused_calls}/src tests/{examples,library,crate_examples} | tr -d '.:')"
 are_in "$map" "$made"$'\n'"$by_lines" "no program or test of the gate calls NAME"
 refused="$(sed -E 's/^[?][0-9]* //; s/^[A-Z][A-Za-z]*:://; s/^([a-z_]*).*/\1/' tests/refused_calls.txt)"
 are_in "$(calls_of '(Into)?RangeMapBlaze' fallible range_map_blaze && calls_of 'Multiway[A-Za-z]*' fallible range_map_multi)" "$by_lines"$'\n'"$refused" \

@@ -164,7 +164,7 @@ judge "blaze_int blaze_entries blaze_table blaze_streams blaze_iters range_map_b
 rm "$work/proved"
 run "a proof of the other" 0 '' stand_in "$work/tree/prove"
 tells "a proof of the other" "rangemap is proved" "proved: script, in"
-judge "blaze_int blaze_entries blaze_table blaze_streams blaze_iters range_map_blaze range_map_cli range_map_multi" "$(paste -sd ' ' "$work/proved")" "the crates that are proved for both"
+judge "blaze_int blaze_entries blaze_table blaze_streams blaze_iters range_map_blaze range_map_cli range_map_multi script_words script_calls script_makes" "$(paste -sd ' ' "$work/proved")" "the crates that are proved for both"
 run "a proof that is there" 0 '' stand_in "$work/tree/prove"
 judge $'prove: rangemap is proved\nprove: script is proved' "$told" "a proof that is there"
 run "the program that was proved" 0 "$(cat "$work/lines")" stand_in "$work/tree/rangemap" <"$work/lines"

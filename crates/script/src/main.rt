@@ -2,13 +2,8 @@
 #![tactic(auto)]
 
 mod calls;
-mod fault;
-mod keys;
 mod lines;
-mod print;
 mod script;
-mod state;
-mod words;
 
 use crate::script::run;
 use std::process::ExitCode;

@@ -1,9 +1,7 @@
 //! A script, line by line.
 use crate::calls::Call;
-use crate::fault::Fault;
-use crate::keys::ScriptKey;
 use crate::lines::{KeyType, Line, Lines};
-use crate::state::State;
+use script_words::{Fault, ScriptKey, State};
 use std::alloc::Global;
 use std::io;
 use std::io::{Read, Write};

@@ -1,10 +1,8 @@
 //! `c = union a b ..` and kin: operations between any number of borrowed maps.
-use crate::calls::joins::{answer, unless_refused};
-use crate::fault::Fault;
-use crate::keys::ScriptKey;
-use crate::state::{Map, MapName, State};
 use range_map_blaze::SweepEvent;
 use range_map_multi::{MultiwayRangeMapBlazeRef, MultiwaySortedDisjointMap};
+use script_makes::{answer, unless_refused};
+use script_words::{Fault, Map, MapName, ScriptKey, State};
 use std::alloc::{AllocError, Global};
 
 /// An operation between any number of maps.

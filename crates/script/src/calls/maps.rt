@@ -1,17 +1,7 @@
 //! Calls of a map that is named first.
-use crate::calls::changes::Change;
-use crate::calls::comparisons::Comparison;
-use crate::calls::extends::Extend;
-use crate::calls::iterate::Iterate;
-use crate::calls::look_ups::LookUp;
-use crate::calls::other_maps::OtherMap;
-use crate::calls::relations::Relation;
 use crate::calls::runs::Run;
-use crate::calls::unless_bad;
-use crate::calls::updates::Update;
-use crate::fault::Fault;
-use crate::keys::ScriptKey;
-use crate::state::{MapName, State};
+use script_calls::{Change, Comparison, Extend, Iterate, LookUp, OtherMap, Relation, Update};
+use script_words::{Fault, MapName, ScriptKey, State, unless_bad};
 
 /// A call of a map.
 #[derive(Drop)]

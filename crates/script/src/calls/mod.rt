@@ -2,39 +2,15 @@
 use crate::calls::many::Sweep;
 use crate::calls::maps::OfMap;
 use crate::calls::new_maps::NewMap;
-use crate::calls::sets::{MakeSet, SetLookUp};
-use crate::fault::Fault;
-use crate::keys::ScriptKey;
-use crate::state::{Map, MapName, SetName, State};
 use range_map_blaze::RangeSetBlaze;
+use script_calls::SetLookUp;
+use script_makes::MakeSet;
+use script_words::{Fault, Map, MapName, ScriptKey, SetName, State};
 
-pub mod changes;
-pub mod comparisons;
-pub mod extends;
-pub mod from_pairs;
-pub mod iterate;
-pub mod joins;
-pub mod look_ups;
-pub mod makes;
 pub mod many;
 pub mod maps;
 pub mod new_maps;
-pub mod operators;
-pub mod other_maps;
-pub mod relations;
 pub mod runs;
-pub mod sets;
-pub mod try_joins;
-pub mod updates;
-
-/// The value that was read, or `None` if the words are invalid.
-fn unless_bad<X>(read: Result<X, Fault>) -> Result<Option<X>, Fault> {
-    match read {
-        Ok(read) => Ok(Some(read)),
-        Err(Fault::Bad) => Ok(None),
-        Err(fault) => Err(fault),
-    }
-}
 
 /// The call of a line, with its arguments.
 #[derive(Drop)]

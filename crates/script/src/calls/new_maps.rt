@@ -1,14 +1,7 @@
 //! `c = ..`: a map that replaces one.
-use crate::calls::from_pairs::FromPairs;
-use crate::calls::joins::Join;
-use crate::calls::makes::Make;
 use crate::calls::many::Many;
-use crate::calls::operators::Operation;
-use crate::calls::try_joins::TryJoin;
-use crate::calls::unless_bad;
-use crate::fault::Fault;
-use crate::keys::ScriptKey;
-use crate::state::{Map, MapName, State};
+use script_makes::{FromPairs, Join, Make, Operation, TryJoin};
+use script_words::{Fault, Map, MapName, ScriptKey, State, unless_bad};
 use std::alloc::Global;
 
 /// How a map is made.

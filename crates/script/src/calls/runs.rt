@@ -1,12 +1,7 @@
 //! `a run STEP; STEP; ..`: a list of steps.
-use crate::calls::other_maps::other_map;
-use crate::fault::Fault;
-use crate::keys::ScriptKey;
-use crate::print::print;
-use crate::state::{Map, MapName, SetName, State};
-use crate::words::{key, value};
 use range_map_blaze::RangeSetBlaze;
 use range_map_cli::{Answer, Refused, Step, run};
+use script_words::{Fault, Map, MapName, ScriptKey, SetName, State, key, other_map, print, value};
 use std::alloc::{AllocError, Global};
 
 /// A step on a map whose values are words.

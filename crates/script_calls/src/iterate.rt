@@ -1,9 +1,6 @@
 //! `a iter W` and kin: calls of one iterator.
-use crate::fault::Fault;
-use crate::keys::ScriptKey;
-use crate::state::{Map, MapName, State};
-use crate::words::bounds;
 use range_map_blaze::names_a_key;
+use script_words::{Fault, Map, MapName, ScriptKey, State, bounds};
 use std::alloc::{AllocError, Global};
 use std::fmt::{Debug, Write};
 use std::ops::Bound;

@@ -1,8 +1,5 @@
 //! `a append b` and kin: another map painted over a map, or filled into its gaps.
-use crate::fault::Fault;
-use crate::keys::ScriptKey;
-use crate::print::print_made;
-use crate::state::{MapName, State};
+use script_words::{Fault, MapName, ScriptKey, State, other_map, print_made};
 use std::alloc::AllocError;
 
 /// How another map changes a map.
@@ -68,13 +65,4 @@ impl OtherMap {
         state.set_map(self.other, other);
         print_made(made, reply)
     }
-}
-
-/// The map that a word names, which must not be the one that is changed.
-pub fn other_map(map: MapName, word: &str) -> Result<MapName, Fault> {
-    let other = MapName::read(word)?;
-    if other == map {
-        return Err(Fault::Bad);
-    }
-    Ok(other)
 }

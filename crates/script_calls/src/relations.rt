@@ -1,9 +1,5 @@
 //! `a is_disjoint b` and kin: how the keys of a map compare with those of another map, of a set, or of a range.
-use crate::fault::Fault;
-use crate::keys::ScriptKey;
-use crate::print::print;
-use crate::state::{Map, MapName, SetName, State};
-use crate::words::bounds;
+use script_words::{Fault, Map, MapName, ScriptKey, SetName, State, bounds, print};
 use std::alloc::AllocError;
 use std::ops::Bound;
 

@@ -30,6 +30,15 @@ impl MapName {
     }
 }
 
+/// The map that a word names, which must not be the one that is changed.
+pub fn other_map(map: MapName, word: &str) -> Result<MapName, Fault> {
+    let other = MapName::read(word)?;
+    if other == map {
+        return Err(Fault::Bad);
+    }
+    Ok(other)
+}
+
 /// The name of a set.
 #[derive(Clone, Copy, PartialEq, Eq)]
 pub enum SetName {

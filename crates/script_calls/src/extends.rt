@@ -1,9 +1,5 @@
 //! `a extend_points K V ..` and kin: pairs painted in order.
-use crate::fault::Fault;
-use crate::keys::ScriptKey;
-use crate::print::print_made;
-use crate::state::Map;
-use crate::words::{inclusive, key, value};
+use script_words::{Fault, Map, ScriptKey, points, print_made, ranges};
 use std::alloc::{AllocError, Global};
 use std::ops::RangeInclusive;
 
@@ -34,31 +30,4 @@ impl<T: ScriptKey> Extend<T> {
             Extend::Simple(pairs) => print_made(map.extend_simple(pairs), reply),
         }
     }
-}
-
-/// The pairs of some words: a key, its value, and so on.
-pub fn points<T: ScriptKey>(alloc: Global, words: &[&str]) -> Result<Vec<(T, String)>, Fault> {
-    let mut pairs = Vec::new(alloc);
-    for pair in words.chunks(2) {
-        let [word, text] = pair else {
-            return Err(Fault::Bad);
-        };
-        pairs.push((key(word)?, value(alloc, text)?))?;
-    }
-    Ok(pairs)
-}
-
-/// The pairs of some words: a range, its value, and so on.
-pub fn ranges<T: ScriptKey>(
-    alloc: Global,
-    words: &[&str],
-) -> Result<Vec<(RangeInclusive<T>, String)>, Fault> {
-    let mut pairs = Vec::new(alloc);
-    for pair in words.chunks(2) {
-        let [word, text] = pair else {
-            return Err(Fault::Bad);
-        };
-        pairs.push((inclusive(word)?, value(alloc, text)?))?;
-    }
-    Ok(pairs)
 }

@@ -1,8 +1,6 @@
 //! `c = a | &b` and kin: operators, each operand owned or borrowed.
-use crate::fault::Fault;
-use crate::keys::ScriptKey;
-use crate::state::{Map, MapName, SetName, State};
 use range_map_blaze::RangeSetBlaze;
+use script_words::{Fault, Map, MapName, ScriptKey, SetName, State};
 use std::alloc::AllocError;
 
 /// An operand's name, and whether it is borrowed.

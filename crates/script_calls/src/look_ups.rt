@@ -1,9 +1,5 @@
 //! `a get K` and kin: calls that read one map.
-use crate::fault::Fault;
-use crate::keys::ScriptKey;
-use crate::print::{print, print_made};
-use crate::state::Map;
-use crate::words::key;
+use script_words::{Fault, Map, ScriptKey, key, print, print_made};
 use std::alloc::AllocError;
 use std::fmt::Write;
 

@@ -1,8 +1,5 @@
 //! `a == b` and kin: two maps compared.
-use crate::fault::Fault;
-use crate::keys::ScriptKey;
-use crate::print::print;
-use crate::state::{Map, MapName, State};
+use script_words::{Fault, Map, MapName, ScriptKey, State, print};
 use std::alloc::AllocError;
 use std::hash::{DefaultHasher, Hash, Hasher};
 

@@ -1,9 +1,6 @@
 //! `c = try_inner_join a b N` and kin: the results of a closure that may fail at the values of maps.
-use crate::calls::joins::{first_character, joined};
-use crate::fault::Fault;
-use crate::keys::ScriptKey;
-use crate::state::{Map, MapName, State};
-use crate::words::nth_call;
+use crate::joins::{first_character, joined};
+use script_words::{Fault, Map, MapName, ScriptKey, State, nth_call};
 use std::alloc::{AllocError, Global};
 
 /// The result of a closure at two words.

@@ -23,3 +23,12 @@ impl<X: Drop> From<AllocFailed<X>> for Fault {
         Fault::Refused
     }
 }
+
+/// The value that was read, or `None` if the words are invalid.
+pub fn unless_bad<X>(read: Result<X, Fault>) -> Result<Option<X>, Fault> {
+    match read {
+        Ok(read) => Ok(Some(read)),
+        Err(Fault::Bad) => Ok(None),
+        Err(fault) => Err(fault),
+    }
+}

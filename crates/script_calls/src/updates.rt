@@ -1,8 +1,5 @@
 //! `a ranges_update R N V`: a range of keys changed by a closure.
-use crate::fault::Fault;
-use crate::keys::ScriptKey;
-use crate::state::Map;
-use crate::words::{bounds, nth_call, value};
+use script_words::{Fault, Map, ScriptKey, bounds, nth_call, value};
 use std::alloc::{AllocError, Global};
 use std::fmt::Write;
 use std::ops::Bound;

@@ -1,9 +1,5 @@
 //! `c = from_points K V ..` and kin: maps made of pairs.
-use crate::calls::extends::{points, ranges};
-use crate::fault::Fault;
-use crate::keys::ScriptKey;
-use crate::state::Map;
-use crate::words::{key, value};
+use script_words::{Fault, Map, ScriptKey, key, points, ranges, value};
 use std::alloc::{AllocError, Global};
 use std::ops::RangeInclusive;
 

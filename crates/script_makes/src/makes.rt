@@ -1,10 +1,6 @@
 //! `c = clone a` and kin: a map made of one map or of a value.
-use crate::calls::joins::first_characters;
-use crate::calls::other_maps::other_map;
-use crate::fault::Fault;
-use crate::keys::ScriptKey;
-use crate::state::{Map, MapName, State};
-use crate::words::{bounds, key, value};
+use crate::joins::first_characters;
+use script_words::{Fault, Map, MapName, ScriptKey, State, bounds, key, other_map, value};
 use std::alloc::{AllocError, Global};
 use std::ops::Bound;
 

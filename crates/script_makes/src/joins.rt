@@ -1,7 +1,5 @@
 //! `c = inner_join a b` and kin: the results of a closure at the values of maps.
-use crate::fault::Fault;
-use crate::keys::ScriptKey;
-use crate::state::{Map, MapName, State};
+use script_words::{Fault, Map, MapName, ScriptKey, State};
 use std::alloc::{AllocError, Global};
 
 /// Two words with `+` between them. A missing one is `-`.

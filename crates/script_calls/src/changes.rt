@@ -1,9 +1,5 @@
 //! `a insert K V` and kin: calls that change one map.
-use crate::fault::Fault;
-use crate::keys::ScriptKey;
-use crate::print::print_made;
-use crate::state::Map;
-use crate::words::{bounds, key, value};
+use script_words::{Fault, Map, ScriptKey, bounds, key, print_made, value};
 use std::alloc::{AllocError, Global};
 use std::ops::Bound;
 
