@@ -4,13 +4,13 @@
 mod fault;
 mod keys;
 mod pairs;
-mod print;
+mod results;
 mod state;
 mod words;
 
 pub use fault::{Fault, unless_bad};
 pub use keys::ScriptKey;
 pub use pairs::{points, ranges};
-pub use print::{print, print_made};
+pub use results::{print, print_made};
 pub use state::{Map, MapName, SetName, State, other_map};
 pub use words::{bounds, inclusive, key, nth_call, value};
