@@ -1,5 +1,5 @@
--- Lists split at a key and put together again, in terms of this crate's own functions. The only public clauses that use
--- them are those of `push_entry`.
+-- Lists split at a key and put together again. Of public clauses, only those of `push_entry` of `blaze_table` use these
+-- functions; others speak of the value at each key.
 use Rattle.std.specs.Prelude.{◌≡◌, ℕ, ℤ, pos, ◌+◌, ◌-◌, ◌≤◌, length, ◌+ℤ◌, ◌-ℤ◌, ◌<ℤ◌, ◌++◌, int_lt, int_le, Bool, ◌&&◌, if◌then◌else◌, List, [], ◌∷◌, Option, Some}
 use Rattle.std.specs.List.{Contains, slice_get}
 use Rattle.std.specs.Option.{option_map}

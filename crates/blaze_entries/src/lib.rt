@@ -1,4 +1,5 @@
-//! The entries of a table, in a tree ordered by their starts, with counters of the work on them.
+//! The entries of a table, in a tree ordered by their starts, with counters of the work on them. `specs/` and `proofs/` also have the
+//! theory of lists of entries, which tables and streams share.
 #![tactic(auto)]
 
 mod count;

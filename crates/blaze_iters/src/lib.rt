@@ -1,4 +1,4 @@
-//! Key-wise iterators: the keys of ranges one by one, each with its value, from both ends.
+//! Streams over tables, and key-wise iterators: the keys of ranges one by one, each with its value, from both ends.
 #![tactic(auto)]
 
 mod into_iter_map;

@@ -1,4 +1,4 @@
-//! The entries and the keys of tables and sets as streams.
+//! The entries and the keys of tables as streams.
 pub mod entry_ends;
 pub mod into_range_values;
 pub mod key_ranges;
