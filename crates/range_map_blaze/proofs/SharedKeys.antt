@@ -102,6 +102,11 @@ nothing_left (e ∷ es) (f ∷ fs) n both = ⊎_elim (λ q. cc) (λ q. cc) n
 
 -- ---- one list has the keys of the other
 
+-- each list has the keys of one that has no range
+pub nothing_asked : {A B : Type 0} {P : Type 0} (L : List (Entry A)) (R : List (Entry B)) → None ≡ option_map range_in (first_entry R) → P ↔ HasKeysOf L R → IsTrue true ↔ P
+nothing_asked L [] n (to, back) = ((λ t. back (λ k s. cc)), (λ p. refl))
+nothing_asked L (e ∷ es) n both = cc
+
 module _ {A B : Type 0} (eqa : A → A → Bool) (eqb : B → B → Bool) (r y : ℤ) (L : List (Entry A)) (R : List (Entry B))
     (ca : IsCanonical eqa L) (cb : IsCanonical eqb R) (first_right : HasFirst r y R) where
   -- the keys of the first list below the second one's go

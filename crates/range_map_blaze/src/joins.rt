@@ -121,7 +121,20 @@ pub(crate) fn joined<
         table.now.entries other.now.entries)) }
 {
     let segments = segments_of(alloc, table, other, kind)?;
-    map_of_answers::<_, _, _, W, F, C>(alloc, segments, f)
+    answers_at::<T, _, W, F, C>(alloc, segments, f)
+}
+
+/// The map of a list's ranges, each with the result of a closure at its value.
+fn answers_at<T: Integer, VC: ValueCarrier, W: Eq + Clone, F: Drop, C: Asks<F, VC, W>>(
+    alloc: Global,
+    list: CanonMapIter<T, VC>,
+    f: F,
+) -> Result<RangeMapBlaze<T, W>, AllocError>
+    requires have { EachValue C.has_arguments list }
+    requires callable { IsCallableAtEachValue C.shows C.calls f (values list) }
+    ensures { IfOk result (IsMade (IsTransformed C.shows C.calls W.eq T.low T.high f list)) }
+{
+    map_of_answers::<_, _, _, W, F, C>(alloc, list, f)
 }
 
 impl<T: Integer, V: Eq + Clone> RangeMapBlaze<T, V> {

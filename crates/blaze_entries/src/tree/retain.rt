@@ -1,7 +1,7 @@
 //! Removal of the entries that a closure rejects.
 ghost use Rattle.std.specs.Prelude.{Bool};
 ghost use Rattle.std.specs.List.Retain.{IsFiltered};
-ghost use Rattle.std.specs.Map.Calls.{CallableOnEachPair, RetainsPairs};
+ghost use Rattle.std.specs.Map.Calls.{CalledAtPair, TakesPair, CallableOnEachPair, RetainsPairs};
 ghost use Rattle.blaze_entries.specs.Answers.{AnswersAt, IsCallableAtEach};
 ghost use Rattle.blaze_entries.specs.NodeAnswers.{AnswersAtNode, TakesNode};
 
@@ -56,12 +56,24 @@ impl<T: Integer, V, F: FnMut(&RangeInclusive<T>, &V) -> bool> Keeps<
     }
 }
 
+// `BTreeMap::retain` with the one clause that `retain_by` uses.
+fn retain_pairs<K: Ord + Drop, V: Drop, F: FnMut(&K, &mut V) -> bool>(
+    pairs: &mut BTreeMap<K, V>,
+    f: F,
+)
+    requires { CallableOnEachPair (CalledAtPair F.FnMut) (TakesPair F.FnMut) f pairs.old.entries }
+    ensures { RetainsPairs (CalledAtPair F.FnMut) f pairs.old.entries pairs.new.entries }
+{
+    pairs.retain(f);
+}
+
 // Keeps the pairs for which a test returns `true`.
 fn retain_by<K: Ord + Drop, V: Drop, E: Keeps<K, V>>(pairs: &mut BTreeMap<K, V>, mut test: E)
     requires { CallableOnEachPair E.step E.accepts test pairs.old.entries }
     ensures { RetainsPairs E.step test pairs.old.entries pairs.new.entries }
 {
-    pairs.retain(
+    retain_pairs(
+        pairs,
         |key, value|
             requires { E.accepts test key.now value.old }
             ensures { E.step test.entry key.now value.old result value.new test.exit }

@@ -1,5 +1,5 @@
-use Rattle.range_map_blaze.proofs.Words.{option_map, ◌∙◌, ap, sym, lt_fails, lt_holds, shown_ends, lengths_left}
-use Rattle.range_map_blaze.proofs.SharedKeys.{fewer_below, fewer_left, nothing_covers, own_passed, shorter_left, shorter_right, starts_before, their_passed}
+use Rattle.range_map_blaze.proofs.Words.{arith, ints, option_map, ◌∙◌, ap, sym, lt_fails, lt_holds, shown_ends, lengths_left}
+use Rattle.range_map_blaze.proofs.SharedKeys.{fewer_below, fewer_left, nothing_asked, nothing_covers, own_passed, shorter_left, shorter_right, starts_before, their_passed}
 use Rattle.range_map_blaze.proofs.relations.has_keys_of.Goals as goal
 
 pub returns-in_default-range : goal.returns-in_default-range
@@ -33,3 +33,15 @@ pub loop-their-preserved : goal.loop-their-preserved
 loop-their-preserved g c =
     their_passed g.V.PartialEq.eq g.W.PartialEq.eq _ _ c.loop-their.ours c.loop-their.theirs c.range-in-Some.ensures.canonical c.range.ensures.canonical c.in-Some.ensures.ends
     _ _ c.in-Some-range.ensures.ends c.advance-else-is_below-2.new.self (lt_fails _ _ (sym c.is_below.ensures ∙ c.if-is_below.false)) c.advance-else-is_below-2.ensures c.loop-their.invariant
+
+pub loop-their-init : goal.loop-their-init
+loop-their-init g c = rw (c.new-ours.ensures ∙ c.new.ensures, c.new-theirs.ensures ∙ c.new-2.ensures) ((λ has. has), (λ has. has))
+
+pub returns : goal.returns
+returns g c =
+    nothing_asked _ _ (sym (ap (option_map (shown_ends g.T.Integer.rank)) c.in_default.is) ∙ c.range.ensures.ends) c.loop-their.invariant
+
+pub sub_one-requires : goal.sub_one-requires
+sub_one-requires g c =
+    let below = lt_holds (g.T.Integer.rank c.in-Some-range.our.end) (g.T.Integer.rank c.in-Some.their.start) (sym c.is_below-in-Some.ensures ∙ c.if-is_below-2.true) in
+    record { above = omega (arith, ints, c.in_hand.ensures.from, below) }

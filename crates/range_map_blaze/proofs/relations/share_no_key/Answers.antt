@@ -1,5 +1,5 @@
-use Rattle.range_map_blaze.proofs.Words.{◌∙◌, sym, lt_fails, lt_holds, lengths_left}
-use Rattle.range_map_blaze.proofs.SharedKeys.{fewer_below, left_passed, right_passed, shared, shorter_left, shorter_right, whole_lists}
+use Rattle.range_map_blaze.proofs.Words.{arith, ints, inl, inr, option_map, ap, shown_ends, ◌∙◌, sym, lt_fails, lt_holds, lengths_left}
+use Rattle.range_map_blaze.proofs.SharedKeys.{fewer_below, left_passed, nothing_left, right_passed, shared, shorter_left, shorter_right, whole_lists}
 use Rattle.range_map_blaze.proofs.relations.share_no_key.Goals as goal
 
 pub loop-our-init : goal.loop-our-init
@@ -33,3 +33,21 @@ pub loop-our-preserved : goal.loop-our-preserved
 loop-our-preserved g c =
     right_passed g.V.PartialEq.eq g.W.PartialEq.eq _ _ _ _ c.loop-our.ours c.loop-our.theirs c.range.ensures.canonical c.range-in-loop-our.ensures.canonical
     c.in-Some-Some.ensures.ends c.in-Some-Some.ensures'.ends c.advance-then-is_below-2.new.self _ c.sub_one-then-is_below-2.ensures c.advance-then-is_below-2.ensures c.loop-our.invariant
+
+pub returns-in_default : goal.returns-in_default
+returns-in_default g c =
+    nothing_left _ _ (inr (sym (ap (option_map (shown_ends g.T.Integer.rank)) c.in_default.is-1) ∙ c.range-in-loop-our.ensures.ends)) c.loop-our.invariant
+
+pub returns-in_default-2 : goal.returns-in_default-2
+returns-in_default-2 g c =
+    nothing_left _ _ (inl (sym (ap (option_map (shown_ends g.T.Integer.rank)) c.in_default.is-0) ∙ c.range.ensures.ends)) c.loop-our.invariant
+
+pub sub_one-requires : goal.sub_one-requires
+sub_one-requires g c =
+    let below = lt_holds (g.T.Integer.rank c.in-Some-Some.our.end) (g.T.Integer.rank c.in-Some-Some.their.start) (sym c.is_below.ensures ∙ c.if-is_below.true) in
+    record { above = omega (arith, ints, c.in_hand.ensures.from, below) }
+
+pub sub_one-requires-then-is_below-2 : goal.sub_one-requires-then-is_below-2
+sub_one-requires-then-is_below-2 g c =
+    let below = lt_holds (g.T.Integer.rank c.in-Some-Some.their.end) (g.T.Integer.rank c.in-Some-Some.our.start) (sym c.is_below-else-is_below.ensures ∙ c.if-is_below-2.true) in
+    record { above = omega (arith, ints, c.in_hand-then-is_below-2.ensures.from, below) }
