@@ -1,8 +1,6 @@
 -- What a table in order has at a key, and round it, by where the key is among its first and last keys.
 use Rattle.blaze_int.proofs.Naturals.{by_less}
-use Rattle.blaze_int.proofs.Comparisons.{by_bool}
-use Rattle.std.proofs.Common.{◌≡◌, ℕ, zero, suc, ◌+◌, ◌-◌, ◌<◌, ◌≤◌, ℤ, pos, ◌+ℤ◌, ◌≤ℤ◌, ◌<ℤ◌, List, [], ◌∷◌, length, get_or, slice_get, slice_index_or, ltb, Bool, true, false, ◌&&◌, Option, Some, None, int_le, MatchBool, refl, sym, ap, subst, ◌∙◌, arith, FitsSigned, w64, to_z, of_z}
-use borrow.Author.Tests.{ltb-true, ltb-false}
+use Rattle.std.proofs.Common.{◌≡◌, ℕ, zero, suc, ◌+◌, ◌-◌, ◌<◌, ◌≤◌, ℤ, pos, ◌+ℤ◌, ◌≤ℤ◌, ◌<ℤ◌, List, [], ◌∷◌, length, get_or, slice_get, slice_index_or, Bool, true, false, ◌&&◌, Option, Some, None, int_le, MatchBool, refl, sym, ap, subst, ◌∙◌, arith, FitsSigned, w64, to_z, of_z}
 use Rattle.std.proofs.lemmas.Int.{ints, by_lt_z, to_z-of_z}
 use Rattle.std.proofs.lemmas.Option.{slice_get-get_or, slice_get_past}
 use Rattle.std.specs.Option.{option_map}

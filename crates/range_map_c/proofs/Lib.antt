@@ -9,3 +9,4 @@ pub mod InOrder
 pub mod Picked
 pub mod Within
 pub mod Parts
+pub mod Unchanged

@@ -1,11 +1,11 @@
 -- What a call tells by what a call of the map gave.
-use Rattle.std.specs.Prelude.{◌≡◌, ℕ, ℤ, Bool, List, [], ◌∷◌, ◌++◌, Option, Some, None, MatchOption, nat_eq}
+use Rattle.std.specs.Prelude.{◌≡◌, ℕ, ℤ, Bool, List, [], Option, Some, None, MatchOption, nat_eq}
 use Rattle.std.proofs.Common.{refl, ap, sym, subst, ◌∙◌}
 use Rattle.std.proofs.lemmas.Bool.{eqb-true}
-use Rattle.blaze_entries.specs.Entries.{Entry, entry, at, SameOption}
+use Rattle.blaze_entries.specs.Entries.{Entry, at, SameOption}
 use Rattle.blaze_table.specs.Gap.{IsGap}
 use Rattle.range_map_c.specs.Handle.{least_key, greatest_key}
-use Rattle.range_map_c.specs.Told.{told, last_of}
+use Rattle.range_map_c.specs.Told.{told}
 
 pub same_is : (a b : Option ℕ) → SameOption nat_eq a b → b ≡ a
 same_is None None s = refl

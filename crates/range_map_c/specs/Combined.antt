@@ -1,12 +1,12 @@
 -- A range whose values are combined with one value by an operation.
-use Rattle.std.specs.Prelude.{◌≡◌, ◌⊎◌, ℕ, ℤ, ◌+◌, ◌%◌, ◌^◌, ◌==◌, ◌<ℤ◌, int_le, if◌then◌else◌, min, max, bit_and, bit_or, bit_xor, List, Option, Some, None, nat_eq}
+use Rattle.std.specs.Prelude.{◌⊎◌, ℕ, ℤ, ◌+◌, ◌%◌, ◌^◌, ◌==◌, ◌<ℤ◌, int_le, if◌then◌else◌, min, max, bit_and, bit_or, bit_xor, List, Option, Some, None, nat_eq}
 use Rattle.blaze_entries.specs.Entries.{Entry, at, SameOption}
 use Rattle.blaze_entries.specs.Canonical.{IsRangeMap, HasEnd}
 use Rattle.blaze_streams.specs.Fills.{IsFilledWithNone}
 use Rattle.range_map_blaze.specs.UpdateLaws.{changed}
 
 -- The result of the operation of a number on the old value and the given one: 0 their sum modulo 2^64, 1 the lesser, 2 the greater, 3
--- the bits that both have, 4 the bits that either has, 5 the bits that exactly one has, and another number the old value.
+-- the bits that both have, 4 the bits that either has, 5 the bits that exactly one has, 6 the old value. No call passes another number.
 abbrev pub operated : ℕ → ℕ → ℕ → ℕ
 operated op old v =
     if op == 0 then (old + v) % 2 ^ 64 else

@@ -1,15 +1,10 @@
-//! Whether the keys of a range have values, the first and the last free range of some length, and a fill of a free range.
-ghost use Rattle.std.specs.Prelude.{◌≡◌, ◌↔◌, ◌<◌, ◌≤ℤ◌, ◌<ℤ◌, ◌+ℤ◌, pos, MatchOption, IsTrue, MatchBool, nat_eq};
-ghost use Rattle.blaze_entries.specs.Entries.{entry, at};
+//! Whether the keys of a range have values, and the first and the last free range of some length.
+ghost use Rattle.std.specs.Prelude.{◌≡◌, ◌↔◌, ◌<◌, ◌≤ℤ◌, ◌<ℤ◌, ◌+ℤ◌, pos, MatchOption, IsTrue, IsFalse, MatchBool};
+ghost use Rattle.blaze_entries.specs.Entries.{at};
 ghost use Rattle.blaze_table.specs.Filled.{IsMappedFrom};
 ghost use Rattle.blaze_table.specs.Gap.{IsClearFrom};
-ghost use Rattle.blaze_entries.specs.Painted.{IsPainted};
 ghost use Rattle.range_map_c.specs.Gaps.{HasKeyFrom, HasNoFreeRange, IsFirstFreeRange, IsLastFreeRange};
-ghost use Rattle.range_map_c.specs.Handle.{least_key, greatest_key};
-ghost use Rattle.range_map_c.specs.Status.{IsFillStatus, OnDone, OnRefused, OnTaken};
 
-use crate::TAKEN;
-use crate::changes::range_map_paint_unchecked;
 use crate::handle::{RangeMap, map_or};
 use range_map_blaze::RangeMapBlaze;
 use std::alloc::Global;
@@ -28,8 +23,8 @@ pub extern "C" fn range_map_any_unchecked(map: &mut RangeMap, lo: i64, hi: i64) 
     }
 }
 
-// Whether a key from `lo` to `hi` has a value.
-fn has_key_from(map: &RangeMapBlaze<i64, u64>, lo: i64, hi: i64) -> bool
+/// Returns whether a key from `lo` to `hi` has a value.
+pub fn has_key_from(map: &RangeMapBlaze<i64, u64>, lo: i64, hi: i64) -> bool
     ensures { MatchBool result (HasKeyFrom (at map.now.entries) lo hi)
         (IsClearFrom (at map.now.entries) lo hi) }
 {
@@ -75,6 +70,7 @@ pub extern "C" fn range_map_find_gap_unchecked(
     ensures gap { MatchBool result
         (IsFirstFreeRange (at map.old.entries) from to length lo.new)
         (HasNoFreeRange (at map.old.entries) from to length) }
+    ensures unwritten { IsFalse result → lo.new ≡ lo.old }
     ensures kept { map.new.entries ≡ map.old.entries }
     ensures same { map.new.at ≡ map.old.at }
 {
@@ -103,6 +99,7 @@ pub extern "C" fn range_map_find_last_gap_unchecked(
     ensures gap { MatchBool result
         (IsLastFreeRange (at map.old.entries) from to length lo.new)
         (HasNoFreeRange (at map.old.entries) from to length) }
+    ensures unwritten { IsFalse result → lo.new ≡ lo.old }
     ensures kept { map.new.entries ≡ map.old.entries }
     ensures same { map.new.at ≡ map.old.at }
 {
@@ -202,29 +199,4 @@ fn first_of_last(from: i64, last: i64, length: u64) -> i64
     } else {
         from + (last.abs_diff(from) - back) as i64
     }
-}
-
-/// Sets the value of every key from `lo` to `hi` if none of them has a value, and else changes nothing. If an allocation fails, the map
-/// is unchanged. O(log n) for n entries.
-#[unsafe(no_mangle)]
-pub extern "C" fn range_map_fill_if_free(
-    alloc: Global,
-    map: &mut RangeMap,
-    lo: i64,
-    hi: i64,
-    value: u64,
-) -> i32
-    ensures status { IsFillStatus result }
-    ensures ok { OnDone result (IsPainted nat_eq least_key greatest_key (entry lo hi value)
-        map.old.entries map.new.entries) }
-    ensures taken { OnTaken result (HasKeyFrom (at map.old.entries) lo hi)
-        (IsClearFrom (at map.old.entries) lo hi) }
-    ensures nowhere { hi <ℤ lo → (result ≡ pos 0) × (map.new.entries ≡ map.old.entries) }
-    ensures err { OnRefused result (map.new.entries ≡ map.old.entries) }
-{
-    if range_map_any_unchecked(map, lo, hi) {
-        return TAKEN;
-    }
-    let mut changed = false;
-    range_map_paint_unchecked(alloc, map, lo, hi, value, &mut changed)
 }

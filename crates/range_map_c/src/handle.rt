@@ -1,5 +1,6 @@
 //! The struct that C holds, and the only unsafe code: a box of the map behind a pointer, which is null where no key has a value
-//! yet.
+//! yet. The files in `handle/` have the calls that change a map. They alone can name what is private here. Other files borrow the map
+//! to be read (`as_ref`).
 ghost use denote.RawPtr.{null_ptr};
 ghost use Rattle.std.specs.Prelude.{◌≡◌, ℕ, pos, List, [], MatchOption, IfOk, IsOkAnd, OnErr};
 ghost use Rattle.std.specs.Box.Ownership.{box_owns};
@@ -7,6 +8,13 @@ ghost use Rattle.std_heap.specs.contracts.GlobalAllocator.TheImpl.{ghosts};
 ghost use Rattle.blaze_entries.specs.Entries.{Entry};
 ghost use Rattle.range_map_c.specs.Handle.{entries_code, handle_owns};
 ghost use Rattle.range_map_c.specs.Status.{IsStatus, OnDone, OnRefused};
+
+mod bulk;
+mod changes;
+mod combine;
+mod makes;
+mod operators;
+mod pops;
 
 use crate::{DONE, NO_MEMORY};
 use range_map_blaze::RangeMapBlaze;
@@ -44,7 +52,7 @@ impl<T: Drop> Parts<T> {
 /// A map as C holds it. Contracts see its entries, ascending.
 #[repr(C)]
 pub struct RangeMap {
-    pub(crate) at: *mut (),
+    at: *mut (),
     alloc: Global,
     pub ghost entries: { List (Entry ℕ) } by { entries_code },
 }
@@ -53,6 +61,9 @@ impl Model for RangeMap {
     ghost also_owns = { λ m. handle_owns m.alloc m.at m.entries };
 }
 
+// It owns nothing, or a box of a map of plain data, which may go to another thread.
+unsafe impl Send for RangeMap {}
+
 impl Drop for RangeMap {
     fn drop(self) {
         drop(self.into_box());
@@ -60,8 +71,8 @@ impl Drop for RangeMap {
 }
 
 impl RangeMap {
-    /// Makes an empty map, which has no memory.
-    pub fn none(alloc: Global) -> RangeMap
+    // Makes an empty map, which has no memory.
+    fn none(alloc: Global) -> RangeMap
         ensures empty { result.entries ≡ [] }
         ensures nothing { result.at ≡ null_ptr }
     {
@@ -92,9 +103,9 @@ impl RangeMap {
         Some(unsafe { Box::from_raw(alloc, at as *mut Map) })
     }
 
-    /// Takes the map out to be changed, and leaves an empty one. If the struct has no map yet, makes an empty one. If an allocation
-    /// fails, the struct is unchanged.
-    pub fn take_or_make(&mut self, alloc: Global) -> Result<Box<Map>, AllocError>
+    // Takes the map out to be changed, and leaves an empty one. If the struct has no map yet, makes an empty one. If an allocation
+    // fails, the struct is unchanged.
+    fn take_or_make(&mut self, alloc: Global) -> Result<Box<Map>, AllocError>
         ensures map { IfOk result (λ boxed. self.old.entries ≡ boxed.value.map.entries) }
         ensures empty { OnErr result (self.old.entries ≡ []) }
         ensures err { OnErr result (self.new.entries ≡ self.old.entries) }
@@ -105,8 +116,8 @@ impl RangeMap {
         }
     }
 
-    /// Replaces the map.
-    pub fn set_map(&mut self, boxed: Box<Map>)
+    // Replaces the map.
+    fn set_map(&mut self, boxed: Box<Map>)
         ensures { self.new.entries ≡ boxed.value.map.entries }
     {
         *self = RangeMap::of_parts(Parts::of(boxed));
@@ -121,8 +132,8 @@ impl RangeMap {
     ghost use Rattle.range_map_c.specs.contracts.handle.Map.{the_row as map_row};
     ghost use Rattle.range_map_c.specs.contracts.handle.RangeMap.{the_row};
 
-    /// Borrows the map. Returns `None` where no key has had a value yet.
-    pub fn as_mut(&mut self) -> Option<&mut Map>
+    // Borrows the map. Returns `None` where no key has had a value yet.
+    fn as_mut(&mut self) -> Option<&mut Map>
         ensures* writes_back { sem 𝓛 (LendsIf the_row map_row self.entry result
             (with_map self.old) self.old) }
         ensures map { MatchOption result (self.old.entries ≡ [])
@@ -179,8 +190,8 @@ pub fn map_or<'a>(
     }
 }
 
-/// Moves a map into a box.
-pub fn boxed_map(map: RangeMapBlaze<i64, u64>, alloc: Global) -> Result<Box<Map>, AllocError>
+// Moves a map into a box.
+fn boxed_map(map: RangeMapBlaze<i64, u64>, alloc: Global) -> Result<Box<Map>, AllocError>
     ensures { IfOk result (λ boxed. boxed.value.map.entries ≡ map.entries) }
 {
     match Box::new(alloc, Map { map }) {
@@ -189,8 +200,8 @@ pub fn boxed_map(map: RangeMapBlaze<i64, u64>, alloc: Global) -> Result<Box<Map>
     }
 }
 
-/// Replaces another map by one that was made. If an allocation fails, that one is unchanged. The empty map does not allocate.
-pub fn hand_out(
+// Replaces another map by one that was made. If an allocation fails, that one is unchanged. The empty map does not allocate.
+fn hand_out(
     made: Result<RangeMapBlaze<i64, u64>, AllocError>,
     out: &mut RangeMap,
     alloc: Global,

@@ -4,17 +4,13 @@
 
 ghost use Rattle.std.specs.Prelude.{◌≡◌};
 
-mod bulk;
-mod changes;
-mod combine;
 mod compare;
 mod counts;
 mod ends;
 mod gaps;
 mod handle;
+mod inside;
 mod look_ups;
-mod makes;
-mod operators;
 mod rows;
 mod table_counts;
 mod table_look_ups;
@@ -34,6 +30,9 @@ pub const TAKEN: i32 = 3;
 
 /// The status of a call whose rows are not in order.
 pub const NOT_ORDERED: i32 = 4;
+
+/// The status of a call with an argument that is not one of its numbers. 5 is a status of the header.
+pub const INVALID: i32 = 6;
 
 /// Returns the version of the library: 10,000 times the first number, 100 times the second, and the third.
 #[unsafe(no_mangle)]

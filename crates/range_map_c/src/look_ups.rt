@@ -91,6 +91,8 @@ pub extern "C" fn range_map_next_unchecked(
 ) -> bool
     ensures entry { told_entry result lo.new hi.new value.new
         ≡ first_of (overlapping key greatest_key map.old.entries) }
+    ensures unwritten { IsFalse result
+        → (lo.new ≡ lo.old) × (hi.new ≡ hi.old) × (value.new ≡ value.old) }
     ensures kept { map.new.entries ≡ map.old.entries }
     ensures same { map.new.at ≡ map.old.at }
 {
@@ -112,6 +114,8 @@ pub extern "C" fn range_map_previous_unchecked(
 ) -> bool
     ensures entry { told_entry result lo.new hi.new value.new
         ≡ last_of (overlapping least_key key map.old.entries) }
+    ensures unwritten { IsFalse result
+        → (lo.new ≡ lo.old) × (hi.new ≡ hi.old) × (value.new ≡ value.old) }
     ensures kept { map.new.entries ≡ map.old.entries }
     ensures same { map.new.at ≡ map.old.at }
 {
@@ -152,7 +156,9 @@ fn last_up_to(map: &RangeMapBlaze<i64, u64>, key: i64) -> Option<(i64, i64, u64)
 
 // Writes an entry, if there is one.
 fn tell_entry(found: Option<(i64, i64, u64)>, lo: &mut i64, hi: &mut i64, value: &mut u64) -> bool
-    ensures { told_entry result lo.new hi.new value.new ≡ option_map shown found }
+    ensures entry { told_entry result lo.new hi.new value.new ≡ option_map shown found }
+    ensures unwritten { IsFalse result
+        → (lo.new ≡ lo.old) × (hi.new ≡ hi.old) × (value.new ≡ value.old) }
 {
     match found {
         Some((start, end, there)) => {

@@ -116,6 +116,8 @@ pub extern "C" fn range_table_next_unchecked(
     requires ordered { AreOrdered (rows lo.now hi.now value.now) }
     ensures entry { told_entry result start.new end.new found.new
         ≡ first_of (overlapping key greatest_key (rows lo.now hi.now value.now)) }
+    ensures unwritten { IsFalse result
+        → (start.new ≡ start.old) × (end.new ≡ end.old) × (found.new ≡ found.old) }
 {
     let row = first_ending_from(lo, hi, key);
     read_row(lo, hi, value, row, start, end, found)
@@ -139,6 +141,8 @@ pub extern "C" fn range_table_previous_unchecked(
     requires ordered { AreOrdered (rows lo.now hi.now value.now) }
     ensures entry { told_entry result start.new end.new found.new
         ≡ last_of (overlapping least_key key (rows lo.now hi.now value.now)) }
+    ensures unwritten { IsFalse result
+        → (start.new ≡ start.old) × (end.new ≡ end.old) × (found.new ≡ found.old) }
 {
     let n = rank(lo, key);
     if n == 0 {

@@ -1,5 +1,5 @@
 //! Binary search for the row of a key in a table, and reading a row.
-ghost use Rattle.std.specs.Prelude.{◌≡◌, ◌≤ℤ◌, length, slice_get, IsTrue};
+ghost use Rattle.std.specs.Prelude.{◌≡◌, ◌≤ℤ◌, length, slice_get, IsTrue, IsFalse};
 ghost use Rattle.range_map_c.specs.Handle.{least_key, greatest_key};
 ghost use Rattle.range_map_c.specs.Ordered.{AreApart, IsRank, IsRankBelow, IsSorted};
 ghost use Rattle.range_map_c.specs.Tables.{rows};
@@ -49,6 +49,8 @@ pub fn read_row(
     requires values { length value.now ≡ length lo.now }
     ensures row { told_entry result start.new end.new found.new
         ≡ slice_get (rows lo.now hi.now value.now) row }
+    ensures unwritten { IsFalse result
+        → (start.new ≡ start.old) × (end.new ≡ end.old) × (found.new ≡ found.old) }
     ensures keys { IsTrue result → (start.new ≤ℤ greatest_key) × (least_key ≤ℤ end.new) }
 {
     if row >= lo.len() {
