@@ -15,5 +15,12 @@ tell() {
     [ "$failed" = 0 ]
 }
 
+# The example of a program over tables: a file with its lines or with its output. `rt ci` runs one of these programs, whose example is
+# beside its code.
+example_of() { # the program, stdin or stdout
+    local top="${tests%/tests}"
+    if [ "$1" = "$(cat "$top/crates/tables/args")" ]; then echo "$top/crates/tables/$2"; else echo "$tests/tables/$1.$2"; fi
+}
+
 # Makes $work/refuse.so, which is preloaded to refuse requests for memory.
 make_refuse() { cc -shared -fPIC -O1 -o "$work/refuse.so" "$tests/refuse.c"; }

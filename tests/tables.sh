@@ -1,27 +1,31 @@
 #!/usr/bin/env bash
-# Tests the programs over tables that people know. Their outputs for the excerpts that `rt ci` runs are compared with
-# those of tests/tables/NAME.py, which goes key by key, without ranges. So are the outputs for whole tables, if these exist:
+# Tests the programs over tables that people know, which `rt ci` builds as one, crates/tables. The output of each example is compared
+# with that of tests/tables/NAME.py, which goes key by key, without ranges. So are the outputs for whole tables, if these exist:
 # Scripts.txt of Debian's package unicode-data, /etc/services, the first 3,000 lines of geoip6 of tor-geoipdb, the memory of a process,
-# and tables that are made here. The key type of docs/KEYS.md must be in `demo_keys`. Then come faulty lines, a folder as input, an
-# output that is full, and each allocation failing in turn. Programs that are not built are left out, and named. The last line is
-# 'N passed, M failed'.
+# and tables that are made here. The key type of docs/KEYS.md must be in `demo_keys`. Then come wrong arguments, faulty lines, a folder
+# as input, an output that is full, and each allocation failing in turn. What runs the program is left out if it is not built, and a
+# line says so. The last line is 'N passed, M failed'.
 set -euo pipefail
 cd "$(dirname "${BASH_SOURCE[0]}")/.."
+source tools/made_of.sh
 source tests/judge.sh
-names=(scripts regions ports calendar routes picture)
-
+program="$(program_of tables)"
 expected() { python3 "tests/tables/$1.py"; } # of the table on standard input
-program_of() { echo "crates/demo_$1/out/demo_$1"; }
-from() { echo "crates/demo_$1/stdin"; }
+from() { example_of "$1" stdin; }
 
-# ---- Excerpts
-for name in "${names[@]}"; do judge "$(cat "crates/demo_$name/stdout")" "$(expected "$name" <"$(from "$name")")" "the excerpt of $name"; done
+# ---- Examples
+for name in "${tables[@]}"; do
+    judge "$(cat "$(example_of "$name" stdout)")" "$(expected "$name" <"$(from "$name")")" "the example of $name"
+done
 
 # ---- The key type that docs/KEYS.md shows whole
 judge "$(cat crates/demo_keys/src/ipv4.rt)" "$(awk '/^```/ { if (inside++) exit; next } inside' docs/KEYS.md)" "the key type of docs/KEYS.md"
 
-built=()
-for name in "${names[@]}"; do if [ -x "$(program_of "$name")" ]; then built+=("$name"); else echo "$name is not built"; fi; done
+if [ ! -x "$program" ]; then
+    echo "crates/tables is not built"
+    tell
+    exit
+fi
 
 # ---- Whole tables
 if [ -f /usr/share/unicode/Scripts.txt ]; then
@@ -76,55 +80,64 @@ with open(f"{work}/picture", "w") as out:
         start = random.randint(-500, 500)
         out.write(f"{start} {start + random.randint(0, 60)} {random.choice('abc')}\n")
 END
-for name in "${built[@]}"; do
+for name in "${tables[@]}"; do
     for table in "$work/$name" "$work/$name".*; do
         if [ ! -f "$table" ]; then continue; fi
         expected "$name" <"$table" >"$work/wanted"
-        "$(program_of "$name")" <"$table" >"$work/got" || true
+        "$program" "$name" <"$table" >"$work/got" || true
         judge yes "$(cmp -s "$work/wanted" "$work/got" && echo yes || diff "$work/wanted" "$work/got" | head -n 5)" "the whole table ${table##*/}"
     done
 done
-if [ -x "$(program_of picture)" ]; then
-    judge 0 "$(printf 'svg\n1 9 a\n99 99 b\n' | "$(program_of picture)" | grep -c '></text>')" "a gap in a picture has no text"
-    judge "$(cat docs/before.svg)" "$(printf 'svg\n10 49 north\n' | "$(program_of picture)")" "docs/before.svg"
-    judge "$(cat docs/after.svg)" "$(printf 'svg\n10 49 north\n20 29 south\n' | "$(program_of picture)")" "docs/after.svg"
-fi
+judge 0 "$(printf 'svg\n1 9 a\n99 99 b\n' | "$program" picture | grep -c '></text>')" "a gap in a picture has no text"
+judge "$(cat docs/before.svg)" "$(printf 'svg\n10 49 north\n' | "$program" picture)" "docs/before.svg"
+judge "$(cat docs/after.svg)" "$(printf 'svg\n10 49 north\n20 29 south\n' | "$program" picture)" "docs/after.svg"
 
-# ---- Faults
-status_of() { # the program, its standard input; its standard error goes to $work/told
-    local status=0
-    "$(program_of "$1")" <"$2" >"$work/printed" 2>"$work/told" || status=$?
+# ---- Examples and arguments
+status_of() { # standard input, the arguments; standard error goes to $work/told
+    local status=0 input="$1"
+    shift
+    "$program" "$@" <"$input" >"$work/printed" 2>"$work/told" || status=$?
     echo "$status"
 }
-for name in "${built[@]}"; do
+for name in "${tables[@]}"; do
+    wanted="0 $(cat "$(example_of "$name" stdout)")"
+    judge "$wanted" "$(status_of "$(from "$name")" "$name") $(cat "$work/printed")" "$name: its example"
     { sed 's/$/\r/' "$(from "$name")" && printf '\r\n'; } >"$work/ended"
-    judge "0 $(cat "crates/demo_$name/stdout")" "$(status_of "$name" "$work/ended") $(cat "$work/printed")" "$name: lines that end with CRLF, and an empty one"
+    judge "$wanted" "$(status_of "$work/ended" "$name") $(cat "$work/printed")" "$name: lines that end with CRLF, and an empty one"
 done
+is_wrong() { # the arguments
+    judge "2 " "$(status_of "$(from ports)" "$@") $(cat "$work/printed")" "the arguments '$*'"
+    judge "usage: tables $(IFS='|' && echo "${tables[*]}") < TABLE" "$(cat "$work/told")" "the arguments '$*': standard error"
+}
+is_wrong
+for word in '' port portss Ports ' ports' range_map $'\xff'; do is_wrong "$word"; done
+is_wrong ports ''
+is_wrong ports ports
+is_wrong ports $'\xff'
+
+# ---- Faults
 while IFS='|' read -r name line; do
-    if [ ! -x "$(program_of "$name")" ]; then continue; fi
     { head -n 2 "$(from "$name")" && echo "$line" && tail -n 2 "$(from "$name")"; } >"$work/faulty"
-    judge 2 "$(status_of "$name" "$work/faulty")" "$name: '$line': status"
+    judge 2 "$(status_of "$work/faulty" "$name")" "$name: '$line': status"
     judge "line 3: $line" "$(cat "$work/told")" "$name: '$line': standard error"
     judge '' "$(grep -v ' meets ' "$work/printed" || true)" "$name: '$line': standard output"
 done <tests/tables/faulty_lines.txt
-if [ -x "$(program_of scripts)" ]; then
-    printf '0041 ; Latin\n\xff\n' >"$work/faulty"
-    judge "2 line 2: �" "$(status_of scripts "$work/faulty") $(cat "$work/told")" "scripts: a line that is no text"
-fi
+printf '0041 ; Latin\n\xff\n' >"$work/faulty"
+judge "2 line 2: �" "$(status_of "$work/faulty" scripts) $(cat "$work/told")" "scripts: a line that is no text"
 make_refuse
-for name in "${built[@]}"; do
-    judge 1 "$(status_of "$name" "$work")" "$name: a folder as input"
+for name in "${tables[@]}"; do
+    judge 1 "$(status_of "$work" "$name")" "$name: a folder as input"
     status=0
-    "$(program_of "$name")" <"$(from "$name")" >/dev/full || status=$?
+    "$program" "$name" <"$(from "$name")" >/dev/full || status=$?
     judge 1 "$status" "$name: an output that is full"
     { head -n 4 "$(from "$name")" && grep '^?' "$(from "$name")" || true; } >"$work/short"
     if [ "$name" = regions ]; then { echo && head -n 3 "$(from regions)" | sed 's/ r--p / rw-p /'; } >>"$work/short"; fi
-    judge 0 "$(status_of "$name" "$work/short")" "$name: a short table"
+    judge 0 "$(status_of "$work/short" "$name")" "$name: a short table"
     cp "$work/printed" "$work/wanted"
-    requests="$(REFUSE_ALL=1 REFUSE_TELL=1 LD_PRELOAD="$work/refuse.so" "$(program_of "$name")" <"$work/short" 2>&1 >/dev/null | sed -n 's/^requests=//p')"
+    requests="$(REFUSE_ALL=1 REFUSE_TELL=1 LD_PRELOAD="$work/refuse.so" "$program" "$name" <"$work/short" 2>&1 >/dev/null | sed -n 's/^requests=//p')"
     refusals=0
     for ((nth = 1; nth <= requests; nth++)); do
-        status="$(REFUSE_ALL=1 REFUSE_NTH=$nth LD_PRELOAD="$work/refuse.so" status_of "$name" "$work/short")"
+        status="$(REFUSE_ALL=1 REFUSE_NTH=$nth LD_PRELOAD="$work/refuse.so" status_of "$work/short" "$name")"
         if [ "$status" = 3 ]; then
             refusals=$((refusals + 1))
         else

@@ -47,6 +47,14 @@ run "script's help" 0 "$(cat "$top/tools/script.help")" "$top/script" --help
 run "test's help" 0 "$(sed -n '2,/^set/ s/^# \?//p' "$top/test")" "$top/test" --help
 run "prove's help" 0 'usage: ./prove [NAME], NAME one of rangemap script scripts regions ports calendar routes picture; without it rangemap and script' "$top/prove" --help
 
+# (the help of a program over tables is the head of its file)
+for name in scripts regions ports calendar routes picture; do
+    run "the help of $name" 0 "usage: tools/run $name < FILE
+$(awk '!/^\/\/!/ { exit } /^\/\/! / { print substr($0, 5) }' "$top/crates/tables/src/$name.rt")" "$top/tools/run" "$name" --help
+    run "$name with a wrong argument" 2 '' "$top/tools/run" "$name" lines
+    tells "$name with a wrong argument" "'lines' is not understood" "usage: tools/run $name < FILE"
+done
+
 # ---- The lines of README.md: the first block of code is in first_map, and prints what the block behind it says
 block() { # the number of an indented block of README.md
     awk -v wanted="$1" '/^    / { if (!inside) count++; inside = 1; if (count == wanted) print substr($0, 5); next } { inside = 0 }' "$top/README.md"
@@ -80,7 +88,7 @@ cat >"$work/bin/rt" <<'END'
 case "$1" in
     version) echo "a stand-in" ;;
     lib) echo "${PWD##*/}" >>"$STAND_IN/proved" ;;
-    run) mkdir -p out && cp "$STAND_IN/program" "out/${PWD##*/}" ;;
+    run) echo "$*" >"$STAND_IN/ran" && mkdir -p out && cp "$STAND_IN/program" "out/${PWD##*/}" ;;
     try) echo "$*" >"$STAND_IN/tried" && if [ -f "$STAND_IN/sleeps" ]; then exec sleep 60; fi
         case "$2" in
             --test) echo "test result: ok. 17 passed; 0 failed; 0 ignored" && exit ;;
@@ -89,7 +97,7 @@ case "$1" in
         cat "$STAND_IN/answers" && cat "$STAND_IN/said" >&2 && exit "$(cat "$STAND_IN/status")" ;;
 esac
 END
-printf '#!/bin/sh\nexec cat\n' >"$work/program"
+printf '#!/bin/sh\nfor word; do echo "$word"; done\nexec cat\n' >"$work/program"
 chmod +x "$work/bin/rt" "$work/program"
 stand_in() { env STAND_IN="$work" PATH="$work/bin:$PATH" "$@"; }
 
@@ -116,6 +124,8 @@ run "a try with too much input" 70 '' stand_in "$work/tree/rangemap" <"$work/zer
 head -c 3000000 "$work/zeros" >"$work/long"
 run "a try with a longer input" 70 '' stand_in "$work/tree/rangemap" <"$work/long"
 judge "try --seconds 360 --" "$(cat "$work/tried")" "the seconds of a try with a longer input"
+run "a try of a program over tables" 70 '' stand_in "$work/tree/tools/run" ports <"$work/bad"
+judge "try --seconds 60 -- ports" "$(cat "$work/tried")" "the words of a try of a program over tables"
 run "no toolchain" 70 '' env PATH=/usr/bin:/bin "$work/tree/rangemap" <"$work/bad"
 judge "rangemap: no answer: not proved yet, and there is no toolchain (\`rt\`) here" "$told" "no toolchain: standard error"
 # (what a key Ctrl-C sends to all of a terminal's programs, which a shell in the background has its own ignore)
@@ -149,13 +159,13 @@ if [ "$with_proof" ]; then
     told="$(cat "$work/told")"
     judge 0 "$status" "tests without a proof: status"
     judge '' "$(grep -v '^[1-9][0-9]* passed, 0 failed$' <<<"$printed" || true)" "tests without a proof: output"
-    tells "tests without a proof" "rangemap: 1 passed" "demo_ports: 2 passed" "library: 1 passed" "wrapper: 1 passed"
+    tells "tests without a proof" "rangemap: 1 passed" "tables: 12 passed" "library: 1 passed" "wrapper: 1 passed"
     echo differs >"$work/output"
     status=0
     stand_in "$work/tree/test" >"$work/printed" 2>"$work/told" || status=$?
     told="$(cat "$work/told")"
     judge 1 "$status" "tests without a proof that fail: status"
-    tells "tests without a proof that fail" "rangemap: 0 passed, 1 failed" "demo_ports: 0 passed, 2 failed"
+    tells "tests without a proof that fail" "rangemap: 0 passed, 1 failed" "tables: 0 passed, 12 failed"
 fi
 
 # ---- A proof by the stand-in: each crate after those that it depends on, and the program fits until a source file changes.
@@ -169,6 +179,14 @@ run "a proof that is there" 0 '' stand_in "$work/tree/prove"
 judge $'prove: rangemap is proved\nprove: script is proved' "$told" "a proof that is there"
 run "the program that was proved" 0 "$(cat "$work/lines")" stand_in "$work/tree/rangemap" <"$work/lines"
 judge '' "$told" "the program that was proved: standard error"
+run "a proof of a program over tables" 0 '' stand_in "$work/tree/prove" routes
+tells "a proof of a program over tables" "tables (" "proved: routes, in"
+judge "run -- routes" "$(cat "$work/ran")" "the words of a proof of a program over tables"
+run "the proof of another" 0 '' stand_in "$work/tree/prove" ports
+judge "prove: ports is proved" "$told" "the proof of another"
+run "another that was proved" 0 "ports
+$(cat "$work/lines")" stand_in "$work/tree/tools/run" ports <"$work/lines"
+judge '' "$told" "another that was proved: standard error"
 echo '//' >>"$work/tree/crates/blaze_int/src/lib.rt"
 tried "a source file that changed" 0 "run=ended status=0 runners=2 proved=no" 0 "error line 2"
 tells "a source file that changed" "not proved since its sources changed"
@@ -187,7 +205,7 @@ mkdir "$work/other/crates/first_map"
 cp -r "$top/crates/first_map/src" "$work/other/crates/first_map/"
 run "a second copy" 0 '' "$work/tree/tools/vendor" "$work/other"
 judge "$(grep -E '^(blaze_(int|entries|table|streams|iters)|range_map_blaze|first_map):' "$top/crates.txt")" "$(cat "$work/other/crates.txt")" "the lines of the copy"
-judge '' "$(cd "$work/other" && find . -name out -o -name must-fail)" "what is not copied"
+judge '' "$(cd "$work/other" && find . -name out -o -name wrong)" "what is not copied"
 run "first_map over the copy" 0 "$(cat "$top/crates/first_map/stdout")" env -C "$work/other/crates/first_map" rt try
 run "no such folder" 2 '' "$work/tree/tools/vendor" "$work/nowhere"
 run "an answer without a proof" 2 "$bad_answers" "$work/tree/rangemap" <"$work/bad"

@@ -4,9 +4,11 @@
 # The file crates/CRATE/out/made_of says what the proved program crates/CRATE/out/CRATE was made of: the toolchain, the crates with their
 # dependencies, and the sum of each source file. The program fits as long as these are the same.
 root="$(cd "$(dirname "${BASH_SOURCE[0]}")/.." && pwd)"
-programs=(rangemap script scripts regions ports calendar routes picture)
-# The crate of a program: the names of those over tables begin with demo_.
-crate_of() { case "$1" in scripts | regions | ports | calendar | routes | picture) echo "demo_$1" ;; *) echo "$1" ;; esac }
+# The programs over tables are one crate, `tables`, whose only argument is the name.
+tables=(scripts regions ports calendar routes picture)
+programs=(rangemap script "${tables[@]}")
+is_table() { case " ${tables[*]} " in *" $1 "*) return 0 ;; *) return 1 ;; esac }
+crate_of() { if is_table "$1"; then echo tables; else echo "$1"; fi; }
 declare -A proof_takes=([rangemap]="20 to 40 minutes on four processors" [script]="30 to 60 minutes on four processors")
 proof_time() { echo "${proof_takes[$1]:-${proof_takes[rangemap]}}"; }
 is_program() { case " ${programs[*]} " in *" $1 "*) return 0 ;; *) return 1 ;; esac }
@@ -63,7 +65,7 @@ made_of() (
     if command -v rt >/dev/null; then rt version </dev/null; else head -n 1 "$(note_of "$1")" 2>/dev/null || echo "no toolchain"; fi
     for crate in "${crates[@]}"; do echo "$crate:${stands_on[$crate]}"; done
     cd "$root/crates" || exit
-    find "${crates[@]}" -name out -prune -o -name must-fail -prune -o -type f \( -name '*.rt' -o -name '*.antt' \) -print0 |
+    find "${crates[@]}" -name out -prune -o -name wrong -prune -o -type f \( -name '*.rt' -o -name '*.antt' \) -print0 |
         LC_ALL=C sort -z | xargs -0 sha256sum
 )
 
