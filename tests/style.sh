@@ -26,7 +26,7 @@ paths=("$@")
 if [ "$#" = 0 ]; then
     paths=(README.md CHANGELOG.md docs bindings crates tests bench tools test .ci/run)
 fi
-mapfile -t files < <(find "${paths[@]}" \( -name out -o -name build -o -name target -o -name examples -o -name must-fail \) -prune -o -type f \
+mapfile -t files < <(find "${paths[@]}" \( -name out -o -name build -o -name target -o -name examples -o -name wrong \) -prune -o -type f \
     \( -regex '.*\.\(md\|help\|package\|sh\|h\|hpp\|py\|pyx\|pxi\|pyi\)' -o -regex '\(test\|\.ci/run\|tools/[a-z]*\)' \
     -o -path 'crates/*/src/*.rt' -o -path 'crates/*/specs/*.antt' -o -path 'bindings/rust/*.rs' -o -path 'tests/*/*.rs' -o -path 'tests/*.txt' \
     -o -path 'bench/library/*.rs' \) -print | LC_ALL=C sort)

@@ -21,7 +21,7 @@ declare -A needs=(
 names=("$@")
 if [ "$#" = 0 ]; then names=(examples crate_examples library bench_library); fi
 
-tar --exclude=out --exclude=must-fail -cf - crates crates.txt HANDLES | tar -C "$work" -xf -
+tar --exclude=out --exclude=wrong -cf - crates crates.txt HANDLES | tar -C "$work" -xf -
 for name in "${names[@]}"; do
     crate="check_$name" folder="tests/$name"
     if [ "$name" = bench_library ]; then folder=bench/library; fi
