@@ -52,8 +52,8 @@
 //! A call that may allocate returns `Result<_, OutOfMemory>`. So do the operators `|`, `&`, `-` and
 //! `^`. If an allocation fails, the map is unchanged, except by four calls. [`RangeMap::extend_with`],
 //! [`RangeMap::append`] and [`RangeMap::try_extend`] take many entries, and may have applied a first
-//! part of them. [`RangeMap::combine`] may have changed a first part of its range. A change that has no effect does not allocate, except by `try_extend`, which
-//! collects its input in batches first.
+//! part of them. [`RangeMap::combine`] may have changed a first part of its range. A change that has no
+//! effect does not allocate, except by `try_extend`, which collects its input in batches first.
 //!
 //! Some traits of the standard library cannot return an error. Their implementations call
 //! [`handle_alloc_error`](std::alloc::handle_alloc_error) if an allocation fails, as the collections
@@ -73,16 +73,37 @@
 //!
 //! # Threads
 //!
-//! A [`RangeMap`] stays on the thread that made it: it is not [`Send`], because the proof does not
-//! cover a map that another thread changes or frees. Neither is [`IntoRangeValues`], which owns a map.
+//! All types of this crate are [`Send`] and [`Sync`].
 //!
-//! ```compile_fail,E0277
-//! let map = range_map::RangeMap::new();
-//! std::thread::spawn(move || drop(map)); // error: cannot be sent between threads safely
+//! A [`RangeMap`] is [`Send`]: a thread may change or drop a map that another thread made. This was
+//! proved for the struct of the library that a map is. A thread can take a map, and return it:
+//!
+//! ```
+//! # use range_map::RangeMap;
+//! # use std::thread;
+//! let mut map = RangeMap::from_iter([(10..=19, 1)]);
+//! let other = thread::spawn(move || map.ranges_insert(15..=24, 2).map(|_| map));
+//! assert_eq!(other.join().unwrap().unwrap().to_string(), "(10..=14, 1), (15..=24, 2)");
 //! ```
 //!
-//! A map is [`Sync`]: several threads may look up in one map at the same time. This was tested, not
-//! proved. The threads of a [`thread::scope`](std::thread::scope) can borrow a map:
+//! Several threads can change one map, one after another, under a lock. [`RangeMap::new`] is `const`, so
+//! that a `static` may hold the lock:
+//!
+//! ```
+//! # use range_map::RangeMap;
+//! # use std::sync::Mutex;
+//! # use std::thread;
+//! static MAP: Mutex<RangeMap> = Mutex::new(RangeMap::new());
+//! thread::scope(|scope| {
+//!     for value in 1..=4 {
+//!         scope.spawn(move || MAP.lock().unwrap().insert(value as i64, value));
+//!     }
+//! });
+//! assert_eq!(MAP.lock().unwrap().to_string(), "(1..=1, 1), (2..=2, 2), (3..=3, 3), (4..=4, 4)");
+//! ```
+//!
+//! A map is [`Sync`]: several threads may look up in one map at the same time, while none changes it.
+//! This was tested, not proved. The threads of a [`thread::scope`](std::thread::scope) can borrow a map:
 //!
 //! ```
 //! # use range_map::RangeMap;
@@ -94,20 +115,6 @@
 //! });
 //! ```
 //!
-//! A [`TableBuf`] has the entries of a map in vectors, and is [`Send`] and [`Sync`]. It may move to
-//! another thread, which can make its own map from it:
-//!
-//! ```
-//! # use range_map::{OutOfMemory, RangeMap};
-//! # use std::thread;
-//! # fn main() -> Result<(), OutOfMemory> {
-//! let table = RangeMap::from_iter([(10..=19, 1)]).to_table()?;
-//! let other = thread::spawn(move || RangeMap::from_table(table.as_table()).map(|map| map.len()));
-//! assert_eq!(other.join().unwrap(), Ok(10));
-//! # Ok(())
-//! # }
-//! ```
-//!
 //! Do not call the library from a signal handler, or from a forked child of a process with threads.
 //!
 //! # No `Index`
@@ -117,7 +124,8 @@
 //!
 //! # Build
 //!
-//! The build script of this crate links `librange_map.a`. It uses the first of these folders:
+//! The build script of this crate links `librange_map.a`, which is for x86-64 Linux with glibc. It
+//! rejects any other target, and an archive for another processor. It uses the first of these folders:
 //!
 //! 1. the folder that the environment variable `RANGE_MAP_LIB_DIR` names, as an absolute path;
 //! 2. `../out` beside the crate, where `bindings/build.sh` of the repository puts the library;
@@ -136,6 +144,11 @@ mod operators;
 mod out_of_memory;
 mod table;
 mod traits;
+
+/// The example of README.md is tested with those of this documentation.
+#[cfg(doctest)]
+#[doc = include_str!("../README.md")]
+struct Readme;
 
 use std::ops::RangeInclusive;
 

@@ -10,8 +10,8 @@ use std::ptr;
 
 /// A map from `i64` keys to `u64` values, stored as entries: ranges of keys with one value each.
 ///
-/// The [crate documentation](crate) says what all methods have in common. A map stays on the thread
-/// that made it, as [Threads](crate#threads) says.
+/// The [crate documentation](crate) says what all methods have in common. [Threads](crate#threads)
+/// says how threads use a map.
 ///
 /// ```
 /// use range_map::{OutOfMemory, RangeMap};
@@ -31,14 +31,17 @@ pub struct RangeMap {
     raw: Raw,
 }
 
-// `RangeMap` is not `Send`, because `Raw` has a pointer: the proof of the library does not cover a map
-// that another thread changes or frees.
+// SAFETY: The struct of the library is `Send`, which is proved:
+// crates/range_map_c/proofs/handle/RangeMap/TheSendSync/Send.antt. A thread that gets it may change
+// and free its map, if the calls of the two threads are ordered. Safe Rust moves no value without
+// such an order. `Raw` is that struct, and no other `RangeMap` has its pointer. `Raw` is not `Send` by
+// itself, because its pointer is not.
+unsafe impl Send for RangeMap {}
 
 // SAFETY: That several threads may look up in one map is tested, not proved. The header allows it, and
 // allows threads to read a map as a constant operand, as long as no call changes the map meanwhile.
-// The calls that change or free a map need `&mut self` or the map itself. Only the thread that made
-// the map can have these, because it is not `Send`. None of these calls runs while another thread
-// has a `&RangeMap`.
+// The calls that change or free a map need `&mut self` or the map itself. So none of them runs while
+// a thread has a `&RangeMap`.
 //
 // This holds for callers that do what the header does: copy the handle, which is one word, to
 // the stack, and pass the address of the copy. A look-up may write to the struct at that address. It

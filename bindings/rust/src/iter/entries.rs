@@ -135,8 +135,7 @@ impl fmt::Debug for RangeValues<'_> {
     }
 }
 
-/// The entries of a map that the iterator owns. [`RangeMap::into_range_values`] returns it. It stays on
-/// the thread that made it, as the map does.
+/// The entries of a map that the iterator owns. [`RangeMap::into_range_values`] returns it.
 ///
 /// ```
 /// # use range_map::RangeMap;

@@ -1,10 +1,11 @@
-//! Lookups from several threads, and which types may move to another thread.
+//! Maps in several threads: lookups at the same time, and maps that go from thread to thread.
 
 use crate::plain::{entries_of, Choice, Plain};
 use range_map::{
-    Gaps, IntoRangeValues, InvalidTable, OutOfMemory, Overlapping, RangeMap, RangeValues, Ranges,
-    Table, TableBuf,
+    Gaps, IntoRangeValues, InvalidTable, Op, OutOfMemory, Overlapping, Place, RangeMap,
+    RangeValues, Ranges, Table, TableBuf,
 };
+use std::sync::{Arc, Mutex};
 use std::thread;
 
 #[test]
@@ -41,27 +42,103 @@ fn threads_share_a_map() {
     assert_eq!(map, copy);
 }
 
-/// `T::is_not_send` has one meaning if `T` is not `Send`, and is ambiguous, an error, if it is.
-trait IsNotSend<Case> {
-    fn is_not_send() {}
+#[test]
+fn all_types_are_send_and_sync() {
+    fn check<T: Send + Sync + std::panic::UnwindSafe + std::fmt::Debug>() {}
+    check::<RangeMap>();
+    check::<IntoRangeValues>();
+    check::<RangeValues<'static>>();
+    check::<Overlapping<'static>>();
+    check::<Ranges<'static>>();
+    check::<Gaps<'static>>();
+    check::<Table<'static>>();
+    check::<TableBuf>();
+    check::<OutOfMemory>();
+    check::<InvalidTable>();
+    check::<Op>();
+    check::<Place>();
 }
-impl<T> IsNotSend<()> for T {}
-impl<T: Send> IsNotSend<u8> for T {}
 
 #[test]
-fn only_owners_of_maps_are_not_send() {
-    fn check<T: Sync + std::panic::UnwindSafe + std::fmt::Debug>() {}
-    fn check_send<T: Send + Sync + std::panic::UnwindSafe + std::fmt::Debug>() {}
-    check::<RangeMap>();
-    RangeMap::is_not_send();
-    check::<IntoRangeValues>();
-    IntoRangeValues::is_not_send();
-    check_send::<RangeValues<'static>>();
-    check_send::<Overlapping<'static>>();
-    check_send::<Ranges<'static>>();
-    check_send::<Gaps<'static>>();
-    check_send::<Table<'static>>();
-    check_send::<TableBuf>();
-    check_send::<OutOfMemory>();
-    check_send::<InvalidTable>();
+fn a_map_goes_from_thread_to_thread() {
+    let mut choice = Choice(5);
+    let mut plain = Plain::new();
+    let mut map = RangeMap::new();
+    for turn in 0..20 {
+        let changes: Vec<(i64, u64)> = (0..100)
+            .map(|_| (choice.below(500), choice.below(3) as u64))
+            .collect();
+        plain.extend(changes.iter().copied());
+        let changed = thread::spawn(move || {
+            for (key, value) in changes {
+                map.insert(key, value)?;
+            }
+            map.ranges_remove(turn..=turn)?;
+            Ok::<_, OutOfMemory>(map)
+        });
+        plain.remove(&turn);
+        map = changed.join().unwrap().unwrap();
+        assert!(map.range_values().eq(entries_of(&plain)));
+    }
+    // Another thread takes the map apart, and a third one drops what remains of it.
+    let mut entries = map.into_range_values();
+    let (first, entries) = thread::spawn(move || (entries.next(), entries))
+        .join()
+        .unwrap();
+    let last = thread::spawn(move || entries.last()).join().unwrap();
+    let wanted = entries_of(&plain);
+    assert_eq!(first.as_ref(), wanted.first());
+    assert_eq!(last.as_ref(), wanted.last());
+}
+
+#[test]
+fn scoped_threads_return_maps() {
+    let shards = thread::scope(|scope| {
+        let shards: Vec<_> = (0..4)
+            .map(|shard| {
+                scope.spawn(move || {
+                    (0..1000)
+                        .map(|at| (4 * at + shard, shard as u64))
+                        .collect::<RangeMap>()
+                })
+            })
+            .collect();
+        shards
+            .into_iter()
+            .map(|shard| shard.join().unwrap())
+            .collect::<Vec<_>>()
+    });
+    let map = shards
+        .iter()
+        .try_fold(RangeMap::new(), |map, shard| &map | shard)
+        .unwrap();
+    let wanted = (0..4000).map(|key| (key..=key, key as u64 % 4));
+    assert!(map.range_values().eq(wanted));
+}
+
+#[test]
+fn threads_change_a_map_under_a_lock() {
+    let map = Arc::new(Mutex::new(RangeMap::new()));
+    let threads: Vec<_> = (0..4)
+        .map(|thread| {
+            let map = Arc::clone(&map);
+            thread::spawn(move || {
+                for at in 0..500 {
+                    let start = 10 * (4 * at + thread);
+                    let mut map = map.lock().unwrap();
+                    map.ranges_insert(start..=start + 3, thread as u64).unwrap();
+                    map.ranges_remove(start + 1..=start + 1).unwrap();
+                }
+            })
+        })
+        .collect();
+    for thread in threads {
+        thread.join().unwrap();
+    }
+    let map = Arc::try_unwrap(map).unwrap().into_inner().unwrap();
+    let wanted = (0..2000).flat_map(|at| {
+        let (start, value) = (10 * at, at as u64 % 4);
+        [(start..=start, value), (start + 2..=start + 3, value)]
+    });
+    assert!(map.into_range_values().eq(wanted));
 }
