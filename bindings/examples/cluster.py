@@ -2,6 +2,7 @@
 
 It needs Dask (Debian: python3-dask, python3-distributed) and NumPy.
 """
+# mypy: allow-untyped-calls
 import sys
 from collections import Counter
 from functools import reduce
@@ -49,7 +50,7 @@ def main() -> None:
         table = client.scatter(FrozenRangeMap(first), broadcast=True)
         sizes = [count // 20 + (part < count % 20) for part in range(20)]
         counts = [client.submit(count_owners, table, size, seed) for seed, size in enumerate(sizes)]
-        total = sum(client.gather(counts), Counter())
+        total: Counter[str | None] = sum(client.gather(counts), Counter())
         print(f"{count} keys: {total[None]} without an owner; most, {max(total[owner] for owner in OWNERS)}, have one owner")
         assert total.total() == count
 

@@ -4,6 +4,7 @@ A table is a file of lines `ADDRESS/LENGTH OWNER`, where the owner is all that i
 skipped. The later line wins. An invalid line ends the program with `owners: line N: invalid` and exit status 1.
 """
 import sys
+from io import TextIOWrapper
 from ipaddress import IPv4Address
 from pathlib import Path
 
@@ -47,7 +48,8 @@ def read(name: str) -> RangeMap[str]:
 
 if len(sys.argv) != 3:
     sys.exit("usage: owners.py OLD NEW")
-sys.stdout.reconfigure(encoding="utf-8", errors="surrogateescape")  # owners are printed byte for byte
+if isinstance(sys.stdout, TextIOWrapper):
+    sys.stdout.reconfigure(encoding="utf-8", errors="surrogateescape")  # owners are printed byte for byte
 old, new = (read(name) for name in sys.argv[1:])
 merged = old | new
 print(f"merged: {len(merged)} ranges, {merged.count()} addresses")

@@ -4,7 +4,7 @@
 cdef object compared(object left, object right, int operator):
     """Compares two maps as the lists of their (key, value) pairs."""
     cdef Rows a, b
-    cdef Py_ssize_t i = 0, j = 0
+    cdef Py_ssize_t i = 0, j = 0, count = 0
     cdef int64_t lo = 0, other_lo = 0, hi
     if not isinstance(left, Lookups) or not isinstance(right, Lookups):
         return NotImplemented
@@ -13,6 +13,8 @@ cdef object compared(object left, object right, int operator):
         if a.length and b.length:
             lo, other_lo = a.lo[0], b.lo[0]
         while i < a.length and j < b.length:
+            pause(count)
+            count += 1
             if lo != other_lo:
                 return PyObject_RichCompare(lo, other_lo, operator)
             value, other_value = a.values.value_of(a.number[i]), b.values.value_of(b.number[j])

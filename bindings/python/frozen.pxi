@@ -17,7 +17,7 @@ cdef class FrozenRangeMap(Lookups):
     cdef bint has_hash, is_made
 
     def __cinit__(self):
-        self.give(Rows())
+        self.give(new_rows())
 
     def __init__(self, entries=()):
         if self.is_made:
@@ -59,6 +59,9 @@ cdef class FrozenRangeMap(Lookups):
     cdef size_t length(self) nogil:
         return self.table.length
 
+    cdef size_t bytes_of_entries(self):
+        return object.__sizeof__(self.table) + 24 * self.table.room
+
     cdef void keys_within(self, int64_t lo, int64_t hi, uint64_t *low, uint64_t *high) nogil:
         low[0] = high[0] = 0
         if self.table.length:
@@ -94,44 +97,47 @@ cdef class FrozenRangeMap(Lookups):
         return self
 
     @classmethod
-    def from_arrays(cls, starts, lasts, values):
-        """Returns the map with `values[i]` at the keys `starts[i]` to `lasts[i]`, which is the last key of the range.
+    def from_arrays(cls, starts, stops, values):
+        """Returns the map with `values[i]` at the keys of each range `starts[i]` to `stops[i]`.
 
-        `starts` and `lasts` are arrays of 64-bit numbers, as `get_many` takes. Raises ValueError if the ranges are empty, share a
-        key, do not ascend or are not as many as the values. Raises TypeError, MemoryError, and what a value's `__hash__` or
-        `__eq__` raises. O(n).
+        `starts` and `stops` are columns of integers, as the module's docstring says; in `stops`, -2**63 stands for 2**63. `values`
+        is an iterable. Raises ValueError if a range is empty, if two share a key or do not ascend, and if the columns are not
+        equally long. Raises OverflowError if a start or stop is below -2**63 or above 2**63. Raises TypeError, MemoryError, and
+        what a value's `__hash__` or `__eq__` raises. O(n).
 
         >>> f = FrozenRangeMap([(1, 6, "a"), (8, 2**63, "b")])
         >>> FrozenRangeMap.from_arrays(*f.to_arrays()) == f
         True
         """
         cdef FrozenRangeMap new = FrozenRangeMap.__new__(cls)
-        return new.of_rows(rows_of_arrays(starts, lasts, values))
+        return new.of_rows(ordered_rows_of_columns(starts, stops, list(values)))
 
     def get_many(self, keys):
         """Returns a list with the value at each key of an array, or None where a key has none.
 
-        `keys` is an `array("q")`, or any object with a buffer of signed 64-bit numbers, such as an int64 array of NumPy. Raises
-        TypeError for another buffer, and MemoryError. Other threads run during the lookups. O(k log n) for k keys.
+        `keys` is a column of integers, as the module's docstring says. Raises TypeError if it has another item or more than one
+        dimension, and MemoryError. Other threads run during the lookups. O(k log n) for k keys; arrays are the fastest.
 
         >>> from array import array
         >>> FrozenRangeMap([(1, 6, "a")]).get_many(array("q", [0, 1, 5, 6]))
         [None, 'a', 'a', None]
         """
-        cdef Keys sought = Keys(keys)
-        cdef Rows found = Rows(), table = self.table
+        cdef Column sought = column_of(keys)
+        cdef Rows found = new_rows(), table = self.table
         cdef list values
         cdef Py_ssize_t row
+        cdef int64_t key = 0
         found.reserve(sought.length + 1)
         with nogil:
             for row in range(sought.length):
-                if not table.find(sought.at(row), &found.number[row]):
+                if sought.at(row, &key) != WITHIN or not table.find(key, &found.number[row]):
                     found.number[row] = UINT64_MAX
         values = new_list(sought.length)
         for row in range(sought.length):
             value = None if found.number[row] == UINT64_MAX else table.values.value_of(found.number[row])
             add_reference_to(value)
             put_item(values, row, value)
+            pause(row)
         return values
 
     def __richcmp__(self, other, int operator):
@@ -162,8 +168,10 @@ cdef class FrozenRangeMap(Lookups):
         return self.hash
 
     def __setstate__(self, state):
+        cdef Rows rows
         if self.is_made:
             raise TypeError("a FrozenRangeMap never changes")
-        self.give(rows_of_state(state))
-        self.is_made = True
+        rows = rows_of_state(state)
         give_attributes(self, state[4])
+        self.give(rows)
+        self.is_made = True

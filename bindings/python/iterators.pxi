@@ -5,7 +5,7 @@ cdef enum:
 
 
 cdef Entries iterator_of(Lookups map, int64_t lo, int64_t hi, bint is_back):
-    cdef Entries entries = Entries()
+    cdef Entries entries = Entries.__new__(Entries)
     return entries.start(map, lo, hi, is_back)
 
 

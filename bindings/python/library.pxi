@@ -1,7 +1,7 @@
 # The C library and the parts of Python's C interface that Cython does not declare. No function here runs Python code, except
 # PyObject_Hash and is_equal.
 
-from cpython.buffer cimport PyBUF_RECORDS_RO, PyBuffer_Release, PyObject_GetBuffer
+from cpython.buffer cimport PyBUF_RECORDS_RO, PyBuffer_Release
 from cpython.bytes cimport PyBytes_FromStringAndSize
 from cpython.long cimport PyLong_Check, PyLong_FromLongLong, PyLong_FromUnsignedLongLong
 from cpython.object cimport (
@@ -21,6 +21,7 @@ cdef extern from "Python.h":
         PyObject *step
     bint is_slice "PySlice_Check"(object)
     long long as_key "PyLong_AsLongLongAndOverflow"(object, int *side) except? -1
+    bint is_index "PyIndex_Check"(object)
     object index_of "PyNumber_Index"(object)
     PyTypeObject *type_of "Py_TYPE"(PyObject *)
     int is_equal "PyObject_RichCompareBool"(PyObject *, PyObject *, int)
@@ -36,10 +37,21 @@ cdef extern from "Python.h":
     int enter_repr "Py_ReprEnter"(object) except -1
     void leave_repr "Py_ReprLeave"(object)
     list new_list "PyList_New"(Py_ssize_t)
+    PyObject *slice_of_list "PyList_GetSlice"(list, Py_ssize_t, Py_ssize_t)
+    PyObject *list_or_null "PyList_New"(Py_ssize_t)
+    void clear_error "PyErr_Clear"()
+    void forget_lookups "PyType_Modified"(type)
+    void stop_process "Py_FatalError"(const char *)
+    int run_signal_handlers "PyErr_CheckSignals"() except -1
+    ctypedef struct c_thread "PyThreadState":
+        pass
+    c_thread *leave_interpreter "PyEval_SaveThread"()
+    void enter_interpreter "PyEval_RestoreThread"(c_thread *)
 
 cdef extern from "range_map.h" nogil:
     ctypedef struct c_map "struct range_map":
         pass
+    const char *VERSION "RANGE_MAP_VERSION"
     int32_t DONE "RANGE_MAP_DONE"
     int32_t NO_MEMORY "RANGE_MAP_NO_MEMORY"
 

@@ -6,7 +6,10 @@ cdef class Lookups:
 
     cdef Values values
     cdef uint64_t changes  # how often the content changed
+    cdef int in_use        # calls of the library that read the map while other threads run
     cdef object __weakref__
+
+    __array_ufunc__ = None  # NumPy's operators do not take a map for an array
 
     # ---- What the two kinds do in C. None of these runs Python code.
 
@@ -26,14 +29,36 @@ cdef class Lookups:
         pass
 
     cdef Rows rows(self, int64_t lo, int64_t hi):
-        """The entries within a range, cut to it. All are of one moment."""
-        cdef Rows rows = Rows()
+        """The entries within a range, cut to it. All are of one moment, but the map may have changed when the call returns."""
+        cdef Rows rows = new_rows()
+        cdef Values values = self.values
+        cdef Py_ssize_t row
+        values.pins += 1
+        try:
+            self.read_rows(rows, lo, hi)
+            for row in range(rows.length):
+                pause(row)
+                rows.number[row] = rows.values.adopt(values, rows.number[row])
+        finally:
+            values.pins -= 1
+        if rows.length:
+            rows.lo[0] = max(rows.lo[0], lo)
+            rows.hi[rows.length - 1] = min(rows.hi[rows.length - 1], hi)
+        return rows
+
+    cdef int read_rows(self, Rows rows, int64_t lo, int64_t hi) except -1:
+        """Reads the entries that have a key in a range. No Python code runs here, but other threads may look up keys."""
         cdef size_t room = self.length() if lo == INT64_MIN and hi == INT64_MAX else 8
         cdef Py_ssize_t row
         cdef int64_t at = lo
+        cdef c_thread *thread
         while self.length():
             rows.reserve(rows.length + room)
+            self.in_use += 1
+            thread = release(room)
             row = self.read(at, False, rows.lo + rows.length, rows.hi + rows.length, rows.number + rows.length, room)
+            acquire(thread)
+            self.in_use -= 1
             rows.length += row
             while rows.length and rows.lo[rows.length - 1] > hi:
                 rows.length -= 1
@@ -42,12 +67,7 @@ cdef class Lookups:
                 break
             at = rows.hi[rows.length - 1] + 1
             room = rows.length
-        for row in range(rows.length):
-            rows.number[row] = rows.values.adopt(self.values, rows.number[row])
-        if rows.length:
-            rows.lo[0] = max(rows.lo[0], lo)
-            rows.hi[rows.length - 1] = min(rows.hi[rows.length - 1], hi)
-        return rows
+        return 0
 
     cdef Lookups of_rows(self, Rows rows):
         """A map of this class with the attributes of this one, and with the rows."""
@@ -83,26 +103,25 @@ cdef class Lookups:
         cdef int64_t lo, hi
         cdef uint64_t number
         if is_slice(keys):
-            return self.of_rows(self.rows(lo, hi) if slice_of(keys, False, &lo, &hi) else Rows())
+            return self.of_rows(self.rows(lo, hi) if slice_of(keys, False, &lo, &hi) else new_rows())
         if key_of(keys, &lo) == 0 and self.find(lo, &number):
             return self.values.value_of(number)
         raise KeyError(keys)
 
     def __contains__(self, key):
-        """Returns whether an object is equal to a key that has a value. O(log n).
+        """Returns whether an object is an integer that has a value, or a number that is equal to one, as `in` of a `range` does.
+        O(log n).
 
+        >>> from decimal import Decimal
         >>> m = RangeMap([(1, 6, "a")])
-        >>> 5 in m, 5.0 in m, 5.5 in m, "5" in m, 2**70 in m
-        (True, True, False, False, False)
+        >>> 5 in m, 5.0 in m, Decimal(5) in m, 5.5 in m, "5" in m, 2**70 in m
+        (True, True, True, False, False, False)
         """
         cdef int64_t at
         cdef uint64_t number
-        if isinstance(key, float) and key.is_integer():
-            key = int(key)
-        try:
-            return key_of(key, &at) == 0 and self.find(at, &number)
-        except TypeError:
-            return False
+        if not PyLong_Check(key):
+            key = integer_of(key)
+        return key is not None and key_of(key, &at) == 0 and self.find(at, &number)
 
     def __len__(self):
         """Returns the number of entries; `count` counts the keys. O(1).
@@ -188,34 +207,39 @@ cdef class Lookups:
     def get_many(self, keys):
         """Returns a list with the value at each key of an array, or None where a key has none.
 
-        `keys` is an `array("q")`, or any object with a buffer of signed 64-bit numbers, such as an int64 array of NumPy. Raises
-        TypeError for another buffer. O(k log n) for k keys.
+        `keys` is a column of integers, as the module's docstring says. Raises TypeError if it has another item or more than one
+        dimension. O(k log n) for k keys; arrays are the fastest.
 
         >>> from array import array
-        >>> RangeMap([(1, 6, "a")]).get_many(array("q", [0, 1, 5, 6]))
-        [None, 'a', 'a', None]
+        >>> m = RangeMap([(1, 6, "a")])
+        >>> m.get_many(array("q", [0, 1, 5, 6])), m.get_many([5, 2**70]), m.get_many(range(5, 8))
+        ([None, 'a', 'a', None], ['a', None], ['a', None, None])
         """
-        cdef Keys found = Keys(keys)
+        cdef Column found = column_of(keys)
         cdef list values = new_list(found.length)
         cdef Py_ssize_t row
+        cdef int64_t key = 0
         cdef uint64_t number
         for row in range(found.length):
-            value = self.values.value_of(number) if self.find(found.at(row), &number) else None
+            value = self.values.value_of(number) if found.at(row, &key) == WITHIN and self.find(key, &number) else None
             add_reference_to(value)
             put_item(values, row, value)
+            pause(row)
         return values
 
     def to_arrays(self):
-        """Returns the columns of the entries: `array("q")` of first keys, `array("q")` of last keys, and a list of values.
-        `from_arrays` reads them. A last key is one below the stop of its entry, since 2**63 is no 64-bit number. O(n).
+        """Returns the columns of the entries: `array("q")` of starts, `array("q")` of stops, and a list of values. In the column
+        of stops, -2**63 stands for 2**63. `from_arrays` and `paint_many` read them. O(n).
+
+        `update` reads entries, not columns: for it, pass the map itself, or `list(m)`, where the stop 2**63 is an int.
 
         >>> RangeMap([(1, 6, "a"), (8, 10, "b")]).to_arrays()
-        (array('q', [1, 8]), array('q', [5, 9]), ['a', 'b'])
+        (array('q', [1, 8]), array('q', [6, 10]), ['a', 'b'])
         """
         cdef Rows rows = self.rows(INT64_MIN, INT64_MAX)
         cdef Py_ssize_t row
-        starts, lasts, _ = rows.arrays()
-        return starts, lasts, [rows.values.value_of(rows.number[row]) for row in range(rows.length)]
+        starts, stops, _ = rows.arrays()
+        return starts, stops, [rows.values.value_of(rows.number[row]) for row in range(rows.length)]
 
     # ---- Iterate
 
@@ -268,9 +292,37 @@ cdef class Lookups:
         cdef Gaps gaps
         if not keys_of(start, stop, False, &lo, &hi):
             return iter(())
-        gaps = Gaps()
+        gaps = Gaps.__new__(Gaps)
         gaps.from_key = lo
         return gaps.start(self, lo, hi, False)
+
+    # ---- For other modules
+
+    def __array__(self, dtype=None, copy=None):
+        """Returns an array of NumPy without dimensions, with this map: to NumPy, a map is one object, as a dictionary is."""
+        import numpy
+        one = numpy.empty((), object)
+        one[()] = self
+        return one
+
+    cdef size_t bytes_of_entries(self):
+        return 0
+
+    def __sizeof__(self):
+        """Returns how many bytes the map takes, without its values.
+
+        This is exact for a FrozenRangeMap. For a RangeMap, it is an estimate of 48 bytes for each entry; these take 34 to 74. O(1).
+        """
+        return object.__sizeof__(self) + self.bytes_of_entries() + self.values.__sizeof__()
+
+    def __dask_tokenize__(self):
+        """Returns what Dask names this map by. It is equal in all processes for maps of one class with the same entries, if the
+        values have such names too. O(n)."""
+        from hashlib import sha256
+        from dask.base import normalize_token
+        cdef Rows rows = self.rows(INT64_MIN, INT64_MAX)
+        columns = [sha256(column).hexdigest() for column in rows.arrays()]
+        return normalize_token((type(self), columns, rows.values.at, attributes_of(self)))
 
     # ---- Compare and print
 
@@ -283,8 +335,8 @@ cdef class Lookups:
         if enter_repr(self):
             return f"{name}(...)"
         try:
-            entries = self.rows(INT64_MIN, INT64_MAX).entries()
-            return f"{name}({entries})" if entries else f"{name}()"
+            texts = self.rows(INT64_MIN, INT64_MAX).texts()
+            return f"{name}([{', '.join(texts)}])" if texts else f"{name}()"
         finally:
             leave_repr(self)
 
@@ -292,16 +344,25 @@ cdef class Lookups:
     def __class_getitem__(cls, item):
         return GenericAlias(cls, item)
 
-    # ---- Pickles: three arrays, the list of values, and the attributes of a subclass
+    # ---- Pickles: columns of starts, stops and numbers, the list of values, and the attributes of a subclass
 
     def __reduce__(self):
         cdef Rows rows = self.rows(INT64_MIN, INT64_MAX)
-        return __newobj__, (type(self),), (*rows.arrays(), rows.values.at, attributes_of(self))
+        starts, lasts, numbers = rows.arrays()
+        return __newobj__, (type(self),), (starts, lasts, numbers, rows.values.at, attributes_of(self))
 
 
 cdef Rows rows_of_state(object state):
-    starts, lasts, numbers, values, _ = state
-    return rows_of_arrays(starts, lasts, [values[number] for number in numbers])
+    starts, stops, numbers, values, _ = state
+    cdef Column positions = column_of(numbers)
+    cdef list known = list(values), held = []
+    cdef Py_ssize_t row
+    cdef int64_t at = 0
+    for row in range(positions.length):
+        if positions.at(row, &at) != WITHIN or not 0 <= at < size_of(known):
+            raise ValueError("the state has a number without a value")
+        held.append(<object>item_of(known, at))
+    return ordered_rows_of_columns(starts, stops, held)
 
 
 cdef object attributes_of(object self):
@@ -314,8 +375,13 @@ cdef object attributes_of(object self):
 
 
 cdef int give_attributes(object self, object attributes) except -1:
+    """Sets what `attributes_of` returned. TypeError or ValueError, before any is set, if it is another object."""
     if attributes is not None:
         named, slots = attributes
+        if not isinstance(named, dict) or not isinstance(slots, dict):
+            raise TypeError("the attributes must be two dictionaries")
+        if named and getattr(self, "__dict__", None) is None or not slots.keys() <= set(_slotnames(type(self))):
+            raise ValueError("the class has no such attributes")
         if named:
             self.__dict__.update(named)
         for name, value in slots.items():

@@ -39,7 +39,7 @@ cdef class RangeMap(Lookups):
     cdef c_map map
 
     def __cinit__(self):
-        self.values = Values()
+        self.values = Values.__new__(Values)
 
     def __init__(self, entries=()):
         if type(entries) is not tuple or entries:
@@ -61,6 +61,9 @@ cdef class RangeMap(Lookups):
 
     cdef size_t length(self) nogil:
         return range_map_entries_unchecked(&self.map)
+
+    cdef size_t bytes_of_entries(self):
+        return 48 * self.length()
 
     cdef void keys_within(self, int64_t lo, int64_t hi, uint64_t *low, uint64_t *high) nogil:
         if lo == INT64_MIN and hi == INT64_MAX:
@@ -93,7 +96,14 @@ cdef class RangeMap(Lookups):
         """
         cdef RangeMap new = self.like()
         cdef Values values = self.values.copy()
-        check(range_map_copy_unchecked(&self.map, &new.map))
+        cdef int32_t status
+        cdef c_thread *thread
+        self.in_use += 1
+        thread = release(self.length())
+        status = range_map_copy_unchecked(&self.map, &new.map)
+        acquire(thread)
+        self.in_use -= 1
+        check(status)
         new.values = values
         return new
 
@@ -109,19 +119,20 @@ cdef class RangeMap(Lookups):
         return FrozenRangeMap(self)
 
     @classmethod
-    def from_arrays(cls, starts, lasts, values):
-        """Returns the map with `values[i]` at the keys `starts[i]` to `lasts[i]`, which is the last key of the range.
+    def from_arrays(cls, starts, stops, values):
+        """Returns the map with `values[i]` at the keys of each range `starts[i]` to `stops[i]`.
 
-        `starts` and `lasts` are arrays of 64-bit numbers, as `get_many` takes. Raises ValueError if the ranges are empty, share a
-        key, do not ascend or are not as many as the values. Raises TypeError, MemoryError, and what a value's `__hash__` or
-        `__eq__` raises. O(n).
+        `starts` and `stops` are columns of integers, as the module's docstring says; in `stops`, -2**63 stands for 2**63. `values`
+        is an iterable. Raises ValueError if a range is empty, if two share a key or do not ascend, and if the columns are not
+        equally long. Raises OverflowError if a start or stop is below -2**63 or above 2**63. Raises TypeError, MemoryError, and
+        what a value's `__hash__` or `__eq__` raises. O(n).
 
         >>> m = RangeMap([(1, 6, "a"), (8, 2**63, "b")])
         >>> RangeMap.from_arrays(*m.to_arrays()) == m
         True
         """
         cdef RangeMap new = RangeMap.__new__(cls)
-        return new.of_rows(rows_of_arrays(starts, lasts, values))
+        return new.of_rows(ordered_rows_of_columns(starts, stops, list(values)))
 
     def complement(self, value):
         """Returns a map with `value` at exactly the keys that have no value here, of this class and with its attributes.
@@ -133,23 +144,43 @@ cdef class RangeMap(Lookups):
         """
         cdef RangeMap new = self.like()
         cdef uint64_t number = new.values.number_of(value)
-        check(range_map_complement_unchecked(&self.map, number, &new.map))
+        cdef int32_t status
+        cdef c_thread *thread
+        self.in_use += 1
+        thread = release(self.length())
+        status = range_map_complement_unchecked(&self.map, number, &new.map)
+        acquire(thread)
+        self.in_use -= 1
+        check(status)
         return new
 
-    # ---- Change. No Python code runs between the lookup of a value's number and the call that gives it to an entry.
+    # ---- Change. No Python code of this thread runs between the lookup of a value's number and the call that gives it to an entry.
 
-    cdef void drop_unused(self):
-        """Drops the values that no entry has, if there are many. Each call that changes the map or adds a value ends with this,
-        after its result is made: a value's __del__ may change the map."""
+    cdef void wait(self, int own=0):
+        """Waits until no other thread reads the map. Then the map may be changed until Python code or another thread may run.
+        Meanwhile other threads may change it."""
+        self.values.pins += 1
+        while self.in_use > own:
+            with nogil:
+                sleep_for(50)
+        self.values.pins -= 1
+
+    cdef void drop_unused(self, bint is_changed):
+        """Drops the values that no entry has, if there are many, and gives back room for values if there is much. Each call that
+        changes the map or adds a value ends with this, after its result is made: a value's __del__ may change the map."""
         cdef list dropped
-        if self.values.count > 16 and not self.values.pins:
-            if <uint64_t>self.values.count > 2 * range_map_entries_unchecked(&self.map) + 16:
+        cdef uint64_t entries
+        if size_of(self.values.at) > 16 and not self.values.pins and not self.in_use:
+            entries = range_map_entries_unchecked(&self.map)
+            if is_changed and <uint64_t>size_of(self.values.at) > 8 * entries + 64:  # (a call that changes nothing ends no iterator)
+                dropped = renumber(self)
+            elif <uint64_t>self.values.count > 2 * entries + 16:
                 dropped = self.values.sweep(&self.map)
 
     cdef int finish(self, int32_t status, bint is_changed) except -1:
         if is_changed:
             self.changes += 1
-        self.drop_unused()
+        self.drop_unused(is_changed)
         return check(status)
 
     cdef int32_t paint_number(self, int64_t lo, int64_t hi, uint64_t number, bint *is_changed):
@@ -167,19 +198,24 @@ cdef class RangeMap(Lookups):
         cdef bint is_changed
         cdef int32_t status
         cdef Py_ssize_t number = self.values.number_of(value)
+        self.wait()
         status = self.paint_number(lo, hi, number, &is_changed)
         return self.finish(status, is_changed)
 
     cdef int remove_range(self, int64_t lo, int64_t hi) except -1:
         cdef c_bool is_changed = False
-        cdef int32_t status = range_map_remove_range_unchecked(&self.map, lo, hi, &is_changed)
+        cdef int32_t status
+        self.wait()
+        status = range_map_remove_range_unchecked(&self.map, lo, hi, &is_changed)
         return self.finish(status, is_changed)
 
     cdef object take(self, int64_t key, object default):
         """Removes a key and returns its value, or the default."""
         cdef c_bool had = False
         cdef uint64_t number
-        cdef int32_t status = range_map_remove_unchecked(&self.map, key, &had, &number)
+        cdef int32_t status
+        self.wait()
+        status = range_map_remove_unchecked(&self.map, key, &had, &number)
         if status == DONE and not had:
             return default
         value = self.values.value_of(number) if had else None
@@ -244,6 +280,7 @@ cdef class RangeMap(Lookups):
         if not keys_of(start, stop, True, &lo, &hi):
             return False
         number = self.values.number_of(value)
+        self.wait()
         status = range_map_fill_unchecked(&self.map, lo, hi, number, &is_changed)
         self.finish(status, is_changed)
         return bool(is_changed)
@@ -275,18 +312,22 @@ cdef class RangeMap(Lookups):
         """
         cdef c_bool had = False
         cdef int64_t key
-        cdef uint64_t number
+        cdef uint64_t number, changes
         cdef int32_t status
         cdef bint is_last = last
+        cdef tuple item
+        while True:
+            changes = self.changes
+            item = self.end(is_last)
+            self.wait()
+            if changes == self.changes:  # (the garbage collector and other threads may run Python code)
+                break
         if is_last:
             status = range_map_pop_last_unchecked(&self.map, &had, &key, &number)
         else:
             status = range_map_pop_first_unchecked(&self.map, &had, &key, &number)
-        value = self.values.value_of(number) if had else None
         self.finish(status, had)
-        if not had:
-            raise KeyError("the map is empty")
-        return key, value
+        return item
 
     def clear(self):
         """Removes all keys. O(n).
@@ -296,9 +337,18 @@ cdef class RangeMap(Lookups):
         >>> m
         RangeMap()
         """
-        cdef bint is_changed = self.length() > 0
-        range_map_clear(&self.map)
-        self.finish(DONE, is_changed)
+        cdef bint is_changed
+        cdef c_map old
+        cdef c_thread *thread
+        self.wait()
+        is_changed = self.length() > 0
+        old = self.map
+        memset(&self.map, 0, sizeof(self.map))
+        self.changes += is_changed
+        thread = release(range_map_entries_unchecked(&old))
+        range_map_free_unchecked(&old)
+        acquire(thread)
+        self.drop_unused(is_changed)
 
     def split(self, key):
         """Keeps the keys below `key`, and returns a map of the others, of this class and with its attributes.
@@ -312,36 +362,78 @@ cdef class RangeMap(Lookups):
         cdef int64_t at
         cdef int side = key_of(key, &at)
         cdef RangeMap new = self.like()
-        cdef Values values = self.values.copy()
+        cdef Values values
         cdef int32_t status
         if side > 0:
             return new
         if side < 0:
             at = INT64_MIN
+        while True:
+            self.wait()
+            values = self.values.copy()
+            if not self.in_use:  # (the garbage collector may let other threads run)
+                break
         status = range_map_split_off_unchecked(&self.map, at, &new.map)
         new.values = values
         self.finish(status, new.length() > 0)
-        new.finish(DONE, False)
+        new.finish(DONE, True)
         return new
 
     # ---- Change by many entries
 
-    cdef void replace(self, c_map *new):
-        """Takes over the content of a map."""
-        cdef c_map old = self.map
-        if range_map_equal_unchecked(&self.map, new):
-            range_map_free_unchecked(new)
-        else:
-            self.map = new[0]
+    cdef bint replace(self, int32_t status, c_map *new) except -1:
+        """Takes over the content of a map that was made while `in_use` counted this call, and returns whether it was another one."""
+        cdef bint is_changed = False
+        cdef c_thread *thread
+        if status == DONE:
+            thread = release(self.length())
+            is_changed = not range_map_equal_unchecked(&self.map, new)
+            acquire(thread)
+            self.wait(1)
+        if is_changed:
+            self.map, new[0] = new[0], self.map
             self.changes += 1
-            range_map_free_unchecked(&old)
+        self.in_use -= 1
+        thread = release(range_map_entries_unchecked(new))
+        range_map_free_unchecked(new)
+        acquire(thread)
+        check(status)
+        return is_changed
+
+    cdef bint replace_by_operation(self, Rows rows, Operation operation) except -1:
+        """Combines the map with rows, and returns whether it changed. If an exception is raised, it is unchanged."""
+        cdef c_map right, out
+        cdef int32_t status
+        cdef c_thread *thread
+        memset(&right, 0, sizeof(right))
+        memset(&out, 0, sizeof(out))
+        check(rows.into_map(&right))
+        self.wait()
+        self.in_use += 1
+        thread = release(self.length() + rows.length)
+        status = combined_maps(&self.map, &right, operation, &out)
+        range_map_free_unchecked(&right)
+        acquire(thread)
+        return self.replace(status, &out)
+
+    cdef bint replace_by_rows(self, Rows rows, bint are_painted) except -1:
+        """Sets rows in a copy, as map_with_rows does, and returns whether the map changed. If an exception is raised, it is
+        unchanged."""
+        cdef c_map out
+        cdef int32_t status
+        cdef c_thread *thread
+        memset(&out, 0, sizeof(out))
+        self.wait()
+        self.in_use += 1
+        thread = release(self.length() + rows.length)
+        status = map_with_rows(&self.map, rows, are_painted, &out)
+        acquire(thread)
+        return self.replace(status, &out)
 
     cdef int paint_rows(self, Rows rows, list values) except -1:
         """Paints rows in order: all of them, or none if an exception is raised."""
-        cdef c_map out
         cdef Py_ssize_t row
-        cdef int32_t status
-        memset(&out, 0, sizeof(out))
+        cdef bint is_changed = False
         if rows.length == 1:
             return self.paint(rows.lo[0], rows.hi[0], values[0])
         if not rows.length:
@@ -350,24 +442,22 @@ cdef class RangeMap(Lookups):
         try:
             for row in range(rows.length):
                 rows.number[row] = self.values.number_of(values[row])
-            status = range_map_copy_unchecked(&self.map, &out)
-            if status == DONE:
-                status = range_map_paint_many_unchecked(&out, rows.lo, rows.length, rows.hi, rows.length, rows.number,
-                                                        rows.length)
-            if status == DONE:
-                self.replace(&out)
+                pause(row)
+            if are_few(self, rows.length):
+                put_in_order(rows)
+                is_changed = set_few(self, rows)
             else:
-                range_map_free_unchecked(&out)
+                is_changed = self.replace_by_rows(rows, True)
         finally:
             self.values.pins -= 1
-            self.drop_unused()
-        return check(status)
+            self.drop_unused(is_changed)
+        return 0
 
     def update(self, entries):
         """Sets the value of each range of `entries`, in order: another map, or an iterable of `(start, stop, value)`.
 
-        An end may be None. Raises what `m[start:stop] = value` raises for one of them; then the map is unchanged.
-        O(n + k log k) for k entries, or O(log n) for a single one.
+        An end may be None. Raises what `m[start:stop] = value` raises for one of them; then the map is unchanged. For k entries,
+        O(log n) for each of them and each entry that they touch if k is at most n / 16, else O(n + k log k).
 
         >>> m = RangeMap([(1, 6, "a")])
         >>> m.update([(5, 8, "b"), (7, 8, "c")])
@@ -380,8 +470,9 @@ cdef class RangeMap(Lookups):
         if isinstance(entries, Lookups):
             combine(self, (<Lookups>entries).rows(INT64_MIN, INT64_MAX), UNION)
             return
-        rows, values = Rows(), []
+        rows, values = new_rows(), []
         for start, stop, value in entries:
+            pause(rows.length)
             if keys_of(start, stop, True, &lo, &hi):
                 rows.push(lo, hi, 0)
                 values.append(value)
@@ -390,27 +481,23 @@ cdef class RangeMap(Lookups):
     def paint_many(self, starts, stops, values):
         """Sets the value of each range `starts[i]` to `stops[i]`, in order, to `values[i]`.
 
-        `starts` and `stops` are arrays of 64-bit numbers, as `get_many` takes, so no stop is 2**63; `values` is an iterable.
-        Raises ValueError if they are not equally long, and what `m[start:stop] = value` raises; then the map is unchanged.
-        O(n + k log k) for k ranges.
+        `starts` and `stops` are columns of integers, as the module's docstring says; in `stops`, -2**63 stands for 2**63. `values`
+        is an iterable. Raises ValueError if the columns are not equally long, OverflowError if a start or stop is below -2**63 or
+        above 2**63, and what `m[start:stop] = value` raises; then the map is unchanged. O(n + k log k) for k ranges.
 
-        >>> from array import array
         >>> m = RangeMap()
-        >>> m.paint_many(array("q", [1, 5]), array("q", [6, 8]), ["a", "b"])
+        >>> m.paint_many([1, 5], [6, 8], ["a", "b"])
         >>> m
         RangeMap([(1, 5, 'a'), (5, 8, 'b')])
+        >>> n = RangeMap()
+        >>> n.paint_many(*m.to_arrays())
+        >>> n == m
+        True
         """
-        cdef Keys from_keys = Keys(starts), to_keys = Keys(stops)
-        cdef Rows rows = Rows()
-        cdef list held = list(values), painted = []
+        cdef list held = list(values)
+        cdef Rows rows = rows_of_columns(starts, stops, held, True)
         cdef Py_ssize_t row
-        if not from_keys.length == to_keys.length == len(held):
-            raise ValueError("the arrays must be equally long")
-        for row in range(from_keys.length):
-            if from_keys.at(row) < to_keys.at(row):
-                rows.push(from_keys.at(row), to_keys.at(row) - 1, 0)
-                painted.append(held[row])
-        self.paint_rows(rows, painted)
+        self.paint_rows(rows, [held[rows.number[row]] for row in range(rows.length)])
 
     def update_range(self, start, stop, function, missing=None):
         """Changes the keys of the range by a function of their values.
@@ -420,8 +507,8 @@ cdef class RangeMap(Lookups):
 
         All calls come before the first change. If values of the map may be None, pass another object as `missing`. An end may be
         None. Raises what `function` raises, RuntimeError if the map changes during a call, and what `m[start:stop] = value` raises;
-        then the map is unchanged by this method. O(n), and O(log n) for each entry in the range. If all pieces that change are in
-        one run with the same result, it is only O(log n) for each entry in the range.
+        then the map is unchanged by this method. O(log n) for each entry in the range, and O(n) if there are more than n / 16
+        runs of pieces that change to the same result.
 
         >>> m = RangeMap([(1, 6, "a"), (8, 10, "b")])
         >>> m.update_range(4, 9, lambda old: old and old.upper())
@@ -433,14 +520,15 @@ cdef class RangeMap(Lookups):
         """
         cdef int64_t lo, hi
         cdef uint64_t changes
-        cdef Rows rows, pieces = Rows()
+        cdef Rows rows, pieces = new_rows()
         cdef Py_ssize_t row
         cdef list olds = [], news = []
         if not keys_of(start, stop, True, &lo, &hi):
             return
-        rows = self.rows(lo, hi)
         changes = self.changes
+        rows = self.rows(lo, hi)
         for row in range(rows.length):
+            pause(row)
             if lo < rows.lo[row]:
                 pieces.push(lo, rows.lo[row] - 1, 0)
                 olds.append(missing)
@@ -452,6 +540,7 @@ cdef class RangeMap(Lookups):
             olds.append(missing)
         for old in olds:
             news.append(function(old))
+            pause(size_of(news))
             check_changes(self, changes)
         set_pieces(self, pieces, news, missing, changes)
 
@@ -493,7 +582,7 @@ cdef class RangeMap(Lookups):
         if not keys_of(start, stop, False, &lo, &hi):
             return None
         length = index_of(length)
-        if not 1 <= length <= UINT64_MAX:
+        if length < 1 or length > UINT64_MAX:
             return lo if length == 2**64 and not self.length() and lo == INT64_MIN and hi == INT64_MAX else None
         if last:
             is_found = range_map_find_last_gap_unchecked(&self.map, lo, hi, length, &found)
@@ -502,5 +591,6 @@ cdef class RangeMap(Lookups):
         return found if is_found else None
 
     def __setstate__(self, state):
-        combine(self, rows_of_state(state), REPLACEMENT)
+        cdef Rows rows = rows_of_state(state)
         give_attributes(self, state[4])
+        combine(self, rows, REPLACEMENT)

@@ -6,43 +6,37 @@ cdef enum Operation:
 
 cdef int combine(RangeMap map, Rows rows, Operation operation) except -1:
     """Changes the map by rows that no other object has: all of it, or nothing if an exception is raised."""
-    cdef c_map right, out
-    cdef Py_ssize_t row, number
-    cdef int32_t status
-    cdef Rows numbers = Rows()
-    memset(&right, 0, sizeof(right))
-    memset(&out, 0, sizeof(out))
+    cdef Py_ssize_t row
+    cdef bint is_changed = False
     map.values.pins += 1
     try:
         if operation != DIFFERENCE:
-            for number in range(size_of(rows.values.at)):
-                value = rows.values.value_of(number)
-                row = map.values.find(value, rows.values.hashes[number])
-                numbers.push(0, 0, row if row >= 0 else map.values.add(value, rows.values.hashes[number]))
+            renumber_rows(rows, map.values)
+        if (operation == UNION or operation == DIFFERENCE) and are_few(map, rows.length):
             for row in range(rows.length):
-                rows.number[row] = numbers.number[rows.number[row]]
-        status = rows.into_map(&right)
-        if status == DONE and operation == REPLACEMENT:
-            out, right = right, out
-        elif status == DONE and operation == SYMMETRIC_DIFFERENCE:
-            status = range_map_symmetric_difference_unchecked(&map.map, &right, &out)
-        elif status == DONE:
-            status = range_map_copy_unchecked(&map.map, &out)
-        if status == DONE and operation == UNION:
-            status = range_map_extend_unchecked(&out, &right)
-        elif status == DONE and operation == INTERSECTION:
-            status = range_map_intersect_unchecked(&out, &right)
-        elif status == DONE and operation == DIFFERENCE:
-            status = range_map_subtract_unchecked(&out, &right)
-        range_map_free_unchecked(&right)
-        if status == DONE:
-            map.replace(&out)
+                rows.number[row] = NONE if operation == DIFFERENCE else rows.number[row]
+            rows.join()
+            is_changed = set_few(map, rows)
         else:
-            range_map_free_unchecked(&out)
+            is_changed = map.replace_by_operation(rows, operation)
     finally:
         map.values.pins -= 1
-        map.drop_unused()
-    return check(status)
+        map.drop_unused(is_changed)
+    return 0
+
+
+cdef int renumber_rows(Rows rows, Values values) except -1:
+    """Gives rows the numbers of their values in another table, which is pinned."""
+    cdef Rows numbers = new_rows()
+    cdef Py_ssize_t number, row
+    for number in range(size_of(rows.values.at)):
+        pause(number)
+        value = rows.values.value_of(number)
+        row = values.find(value, rows.values.hashes[number])
+        numbers.push(0, 0, row if row >= 0 else values.add(value, rows.values.hashes[number]))
+    for row in range(rows.length):
+        rows.number[row] = numbers.number[rows.number[row]]
+    return 0
 
 
 cdef object combined(object left, object right, Operation operation):

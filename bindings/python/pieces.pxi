@@ -9,41 +9,27 @@ cdef int check_changes(RangeMap map, uint64_t changes) except -1:
 
 cdef int set_pieces(RangeMap map, Rows pieces, list values, object missing, uint64_t changes) except -1:
     """Sets the keys of each piece, or removes them where the value is `missing`, if the map has not changed since."""
-    cdef c_map out
-    cdef c_bool ignored = False
     cdef Py_ssize_t row
-    cdef int32_t status = DONE
+    cdef bint is_changed = False
     cdef Rows changed
-    memset(&out, 0, sizeof(out))
     map.values.pins += 1
     try:
         for row in range(pieces.length):
+            pause(row)
             value = values[row]
             pieces.number[row] = UINT64_MAX if value is missing else map.values.number_of(value)
-        changed = Rows()  # (the garbage collector may run Python code here)
+        changed = new_rows()  # (the garbage collector may run Python code here)
+        map.wait()
         check_changes(map, changes)
         push_changed(map, pieces, changed)
-        if changed.length == 1:
-            if changed.number[0] == UINT64_MAX:
-                status = range_map_remove_range_unchecked(&map.map, changed.lo[0], changed.hi[0], &ignored)
-            else:
-                status = range_map_paint_unchecked(&map.map, changed.lo[0], changed.hi[0], changed.number[0], &ignored)
-            map.changes += status == DONE
-        elif changed.length:
-            status = range_map_copy_unchecked(&map.map, &out)
-            for row in range(changed.length):
-                if status == DONE and changed.number[row] == UINT64_MAX:
-                    status = range_map_remove_range_unchecked(&out, changed.lo[row], changed.hi[row], &ignored)
-                elif status == DONE:
-                    status = range_map_paint_unchecked(&out, changed.lo[row], changed.hi[row], changed.number[row], &ignored)
-            if status == DONE:
-                map.replace(&out)
-            else:
-                range_map_free_unchecked(&out)
+        if changed.length <= 1 or are_few(map, changed.length):
+            is_changed = set_few(map, changed)
+        else:
+            is_changed = map.replace_by_rows(changed, False)
     finally:
         map.values.pins -= 1
-        map.drop_unused()
-    return check(status)
+        map.drop_unused(is_changed)
+    return 0
 
 
 cdef int push_changed(RangeMap map, Rows pieces, Rows changed) except -1:

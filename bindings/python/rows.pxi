@@ -1,6 +1,6 @@
 # Keys and ranges from Python, and tables of rows in C.
 
-_MISSING = object()
+cdef object _MISSING = object()
 
 
 cdef inline int key_of(object key, int64_t *out) except -2:
@@ -17,9 +17,13 @@ cdef inline bint keys_of(object start, object stop, bint is_written, int64_t *lo
     cdef int start_side = 0, stop_side = 0
     lo[0], hi[0] = INT64_MIN, INT64_MAX
     if start is not None:
-        start_side = key_of(start, lo)
+        if not PyLong_Check(start):
+            start = index_of(start)
+        lo[0] = as_key(start, &start_side)
     if stop is not None:
-        stop_side = key_of(stop, hi)
+        if not PyLong_Check(stop):
+            stop = index_of(stop)
+        hi[0] = as_key(stop, &stop_side)
         if stop_side == 0:
             if hi[0] > INT64_MIN:
                 hi[0] -= 1
@@ -32,8 +36,8 @@ cdef inline bint keys_of(object start, object stop, bint is_written, int64_t *lo
 
 cdef bint cut_keys_of(object start, object stop, bint is_written, int start_side, int stop_side, int64_t *lo,
                       int64_t *hi) except -1:
-    start = INT64_MIN if start is None else index_of(start)
-    stop = <object>INT64_MAX + 1 if stop is None else index_of(stop)
+    start = INT64_MIN if start is None else start
+    stop = <object>INT64_MAX + 1 if stop is None else stop
     if start >= stop:
         return False
     if is_written and (start < INT64_MIN or stop - 1 > INT64_MAX):
@@ -62,27 +66,6 @@ cdef inline object count_of(uint64_t low, uint64_t high):
     return <object>low if not high else (<object>high << 64) + low
 
 
-cdef class Keys:
-    """The numbers in an array of 64 bit numbers: `array("q")`, or int64 of NumPy, contiguous or not."""
-
-    cdef Py_buffer view
-    cdef Py_ssize_t length
-
-    def __cinit__(self, numbers):
-        PyObject_GetBuffer(numbers, &self.view, PyBUF_RECORDS_RO)
-        if self.view.ndim != 1 or self.view.itemsize != 8 or self.view.format.lstrip(b"@=<") not in (b"q", b"l"):
-            raise TypeError("the array must have one dimension, and signed numbers of 64 bits")
-        self.length = self.view.shape[0]
-
-    def __dealloc__(self):
-        PyBuffer_Release(&self.view)
-
-    cdef inline int64_t at(self, Py_ssize_t row) nogil:
-        cdef int64_t number
-        memcpy(&number, <char *>self.view.buf + row * self.view.strides[0], 8)
-        return number
-
-
 @cython.final
 @cython.no_gc_clear
 cdef class Rows:
@@ -95,7 +78,7 @@ cdef class Rows:
     cdef Values values
 
     def __cinit__(self):
-        self.values = Values()
+        self.values = Values.__new__(Values)
 
     def __dealloc__(self):
         free(self.lo)
@@ -132,9 +115,16 @@ cdef class Rows:
     cdef object entry(self, Py_ssize_t row):
         return (self.lo[row], stop_of(self.hi[row]), self.values.value_of(self.number[row]))
 
-    cdef list entries(self):
-        cdef Py_ssize_t row
-        return [self.entry(row) for row in range(self.length)]
+    cdef list texts(self):
+        """The texts of the entries, of some hundred in each."""
+        cdef Py_ssize_t start, row
+        cdef list texts = [], entries
+        for start in range(0, self.length, 512):
+            entries = [self.entry(row) for row in range(start, min(start + 512, self.length))]
+            text = repr(entries)
+            texts.append(text[1 : len(text) - 1])
+            pause(MANY - 1)
+        return texts
 
     cdef bint is_ordered(self):
         return not self.length or range_table_is_ordered_unchecked(
@@ -152,39 +142,36 @@ cdef class Rows:
         self.length = min(self.length, last + 1)
 
     cdef int32_t into_map(self, c_map *out):
-        """Makes a map of rows that are in order."""
+        """Makes a map of rows that are in order. No other object has the map."""
+        cdef int32_t status
+        cdef c_thread *thread
         self.join()
         if not self.length:
             range_map_clear(out)
             return DONE
-        return range_map_from_table_unchecked(self.lo, self.length, self.hi, self.length, self.number, self.length, out)
+        thread = release(self.length)
+        status = range_map_from_table_unchecked(self.lo, self.length, self.hi, self.length, self.number, self.length, out)
+        acquire(thread)
+        return status
 
     cdef tuple arrays(self):
-        """Copies the columns: array("q") of first keys, array("q") of last keys, and array("Q") of numbers."""
-        return (numbers_array("q", <char *>self.lo, self.length), numbers_array("q", <char *>self.hi, self.length),
-                numbers_array("Q", <char *>self.number, self.length))
+        """Copies the columns: array("q") of starts, array("q") of stops, where -2**63 stands for 2**63, and array("Q") of
+        numbers."""
+        return (numbers_array("q", <uint64_t *>self.lo, self.length, 0), numbers_array("q", <uint64_t *>self.hi, self.length, 1),
+                numbers_array("Q", self.number, self.length, 0))
 
 
-cdef object numbers_array(str kind, char *start, Py_ssize_t length):
-    numbers = array(kind)
-    if length:
-        numbers.frombytes(PyBytes_FromStringAndSize(start, 8 * length))
-    return numbers
+cdef inline Rows new_rows():
+    return Rows.__new__(Rows)
 
 
-cdef Rows rows_of_arrays(object starts, object lasts, object values):
-    """The rows of three sequences, with the values numbered anew. ValueError if the rows are not in order."""
-    cdef Rows rows = Rows()
-    cdef Keys los = Keys(starts), his = Keys(lasts)
+cdef object numbers_array(str kind, uint64_t *start, Py_ssize_t length, uint64_t more):
+    """An array of numbers, each with `more` added modulo 2**64."""
+    cdef bytes copy = PyBytes_FromStringAndSize(<char *>start, 8 * length)
+    cdef uint64_t *copied = <uint64_t *><char *>copy
     cdef Py_ssize_t row
-    held = list(values)
-    if not los.length == his.length == len(held):
-        raise ValueError("the arrays must be equally long")
-    for row in range(los.length):
-        rows.push(los.at(row), his.at(row), 0)
-    if not rows.is_ordered():
-        raise ValueError("each row must start at or below its last key, and above the last key of the row before it")
-    for row in range(rows.length):
-        rows.number[row] = rows.values.number_of(held[row])
-    rows.join()
-    return rows
+    for row in range(length):
+        copied[row] += more
+    numbers = array(kind)
+    numbers.frombytes(copy)
+    return numbers

@@ -22,6 +22,11 @@ cdef class Values:
         free(self.hashes)
         free(self.index)
 
+    def __sizeof__(self):
+        """The bytes of the table, without the values."""
+        cdef size_t room = 0 if self.index == NULL else self.mask + 1
+        return object.__sizeof__(self) + self.at.__sizeof__() + room * sizeof(Py_ssize_t) + room // 2 * sizeof(Py_hash_t)
+
     cdef inline object value_of(self, uint64_t number):
         if number >= <uint64_t>size_of(self.at):  # the garbage collector has cleared the list
             raise RuntimeError("the map was freed")
@@ -127,7 +132,7 @@ cdef class Values:
 
     cdef Values copy(self):
         """A table with the same numbers. Runs no Python code after it has read them."""
-        cdef Values copy = Values()
+        cdef Values copy = Values.__new__(Values)
         cdef list at
         while True:
             at = self.at
@@ -155,11 +160,8 @@ cdef class Values:
         cdef Py_ssize_t length, number
         cdef size_t read = 128, row
         cdef char *is_used
-        try:
-            kept = at[:]
-        except MemoryError:
-            return None
-        if self.pins or at is not self.at or size_of(at) != size_of(kept):  # the garbage collector ran Python code
+        kept = copied(at)
+        if kept is None or self.pins or at is not self.at or size_of(at) != size_of(kept):  # the garbage collector ran Python code
             return None
         length = size_of(at)
         is_used = <char *>calloc(length + 1, 1)
@@ -187,6 +189,42 @@ cdef class Values:
         free(is_used)
         self.at = kept
         return at
+
+    cdef void take(self, list kept, Py_ssize_t *new_of, Py_ssize_t *index, Py_hash_t *hashes, size_t room):
+        """Takes over a table of `room` places. `kept` gets the value of each number that has a place in `new_of`, counted from 1;
+        the others are dropped. Runs no Python code while the caller has the old list."""
+        cdef Py_ssize_t number
+        cdef PyObject *value
+        for number in range(size_of(self.at)):
+            if new_of[number]:
+                value = item_of(self.at, number)
+                add_reference(value)
+                put_item(kept, new_of[number] - 1, <object>value)
+                hashes[new_of[number] - 1] = self.hashes[number]
+        free(self.index)
+        free(self.hashes)
+        self.at, self.index, self.hashes, self.mask = kept, index, hashes, room - 1
+        self.count, self.first_free = size_of(kept), -1
+        self.grown += 1
+        memset(index, 0xFF, room * sizeof(Py_ssize_t))
+        for number in range(self.count):
+            self.enter(number)
+
+
+cdef list copied(list items):
+    """A copy of a list, or None if an allocation fails."""
+    return owned(slice_of_list(items, 0, size_of(items)))
+
+
+cdef list owned(PyObject *made):
+    """A list that a function of Python has made, or None if it has made none. (An exception that is caught needs memory.)"""
+    cdef list result = None
+    if made == NULL:
+        clear_error()
+    else:
+        result = <list>made
+        drop_reference(made)
+    return result
 
 
 cdef inline uint64_t mixed(Py_hash_t hash):

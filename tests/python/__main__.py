@@ -9,13 +9,26 @@ import sys
 import time
 
 from cases import arrays, changed_while_iterated, many_entries, printed, subclasses, threads, updated_ranges, values_of_all_kinds
+from claims import asked_once, contains, pickled, rejected_states
+from columns import columns_go_round, columns_of_all_kinds, painted_columns, rejected_columns
+from concurrent_calls import changes_wait, other_threads_run, signals_are_seen
+from few import few_rows, few_rows_in_place, few_rows_refused
 from interface import examples, types
 from memory import collected, memory_is_flat, refused, refused_memory, sanitized, values_are_dropped
+from nomemory import python_allocations_fail
+from others import dask_names, numpy_arrays, signatures, sizes, typed, version
+from private import iterators_are_not_copied, private_classes
+from room import removals_give_room_back, values_keep_their_entries
 from rounds import rounds
 from wild import wild_values
 
 CASES = [values_of_all_kinds, changed_while_iterated, updated_ranges, wild_values, values_are_dropped, collected, memory_is_flat, subclasses,
          arrays, many_entries, threads, printed, refused_memory, sanitized, examples, types]
+CASES += [columns_go_round, painted_columns, rejected_columns, columns_of_all_kinds, contains, asked_once, rejected_states, pickled,
+          numpy_arrays, sizes, dask_names, version, signatures, typed]
+CASES += [iterators_are_not_copied, private_classes, removals_give_room_back, values_keep_their_entries, python_allocations_fail,
+          few_rows, few_rows_in_place, few_rows_refused, changes_wait, other_threads_run,
+          signals_are_seen]
 
 
 def main():

@@ -161,24 +161,15 @@ def subclasses():
     holder.map = RangeMap([(1, 2, holder)])
     again = copy.deepcopy(holder)
     same(again.map[1] is again and again is not holder, True, "a deep copy of a cycle")
-    for state in (([1], [2]), (array("q", [1]), array("q", [0]), array("Q", [0]), ["a"], None), (array("q", [1]), array("q", [2]),
-                  array("Q", [1]), ["a"], None), (array("q", [1, 2]), array("q", [2, 3]), array("Q", [0, 0]), ["a"], None)):
-        m = RangeMap([(5, 6, 1)])
-        same(result_of(lambda: m.__setstate__(state), ValueError, IndexError), IndexError if state[0] == array("q", [1]) and
-             state[1] == array("q", [2]) else ValueError, "a bad pickle")
-        same(list(m), [(5, 6, 1)], "a map after a bad pickle")
     same(RangeMap[str].__origin__, RangeMap, "RangeMap[str]")
 
 
 def arrays():
     m = RangeMap([(1, 6, "a"), (8, END, "b")])
-    for kind in ("i", "Q", "d", "b"):
-        same(result_of(lambda: m.get_many(array(kind, [1])), TypeError), TypeError, f"an array of {kind}")
-    same(result_of(lambda: m.get_many([1]), TypeError), TypeError, "a list")
-    for starts, lasts, values in (([1, 3], [3, 4], "ab"), ([3], [2], "a"), ([3], [3, 4], "a"), ([3], [4], "ab"), ([5, 1], [6, 2], "ab")):
+    for starts, stops, values in (([1, 3], [4, 5], "ab"), ([3], [3], "a"), ([3], [4, 5], "a"), ([3], [5], "ab"), ([5, 1], [7, 3], "ab")):
         for kind in (RangeMap, FrozenRangeMap):
-            same(result_of(lambda: kind.from_arrays(array("q", starts), array("q", lasts), values), ValueError), ValueError, "rows")
-    same(list(FrozenRangeMap.from_arrays(array("q", [1, 3]), array("q", [2, 4]), "aa")), [(1, 5, "a")], "rows that touch")
+            same(result_of(lambda: kind.from_arrays(array("q", starts), array("q", stops), values), ValueError), ValueError, "rows")
+    same(list(FrozenRangeMap.from_arrays(array("q", [1, 3]), array("q", [3, 5]), "aa")), [(1, 5, "a")], "rows that touch")
     same(m.get_many(memoryview(array("q", range(10)))[::3]), [None, "a", None, "b"], "every third key")
     try:
         import numpy

@@ -12,6 +12,7 @@ from range_map import FrozenRangeMap, RangeMap
 
 
 def examples():
+    range_map.__test__ = {"lookups": RangeMap.__base__}  # (a class without a public name)
     told = doctest.testmod(range_map)
     same((told.failed, told.attempted > 70), (0, True), "the examples of docstrings")
     for kind in (RangeMap, FrozenRangeMap):

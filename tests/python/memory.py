@@ -142,6 +142,7 @@ def refused():
         lambda m, n, s, f: pickle.loads(pickle.dumps(f)), lambda m, n, s, f: f.get_many(starts), lambda m, n, s, f: m < f,
         lambda m, n, s, f: m.__setstate__(n.__reduce__()[2]), lambda m, n, s, f: RangeMap(n), lambda m, n, s, f: m.clear(),
         lambda m, n, s, f: list(m.gaps()), lambda m, n, s, f: m.get_many(starts),
+        lambda m, n, s, f: m.paint_many(list(starts), list(stops), range(150)), lambda m, n, s, f: f.get_many(list(starts)),
     ]
     passed = failed = 0
     for number, call in enumerate(calls):
@@ -173,13 +174,13 @@ def refused():
             if request == 1 and requests < 0:
                 print("the module was not found by the shim")
                 failed += 1
-    # equal results that touch are one edit, which is made in the map itself; others are made in a copy of it
+    # few edits are made in the map itself
     m = RangeMap((key, key + 1, key) for key in range(20_000))
-    for start, function, least, most in ((7, lambda old: 8, 1, 50), (17, lambda old: old + 1, 500, 1_000_000)):
+    for start, function in ((7, lambda old: 8), (17, lambda old: old + 1)):
         shim.refuse_from(0, 0)
         m.update_range(start, start + 3, function)
         requests = shim.refuse_count()
-        if least <= requests <= most:
+        if 1 <= requests <= 50:
             passed += 1
         else:
             failed += 1
@@ -224,4 +225,5 @@ def sanitized():
         subprocess.run([compiler, "-shared", "-fPIC", "-O1", "-w", "-fsanitize=address", *include, "-o", str(
             package / f"__init__{sysconfig.get_config_var('EXT_SUFFIX')}"), str(source), str(out / "librange_map.a")], check=True)
         environment = {"LD_PRELOAD": asan, "ASAN_OPTIONS": "detect_leaks=0", "PYTHONMALLOC": "malloc", "RANGE_MAP_PYTHON": folder}
-        counted([sys.executable, str(here), "wild_values", "values_of_all_kinds", "subclasses"], environment, "the address sanitizer")
+        cases = ["wild_values", "values_of_all_kinds", "subclasses", "columns_of_all_kinds", "rejected_states"]
+        counted([sys.executable, str(here), *cases], environment, "the address sanitizer")

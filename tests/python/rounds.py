@@ -188,8 +188,7 @@ class Round:
             self.one.map.update(entries)
         else:
             starts, stops, values = zip(*entries) if entries else ((), (), ())
-            if END in stops:
-                return
+            stops = [LEAST if stop == END else stop for stop in stops]
             self.one.map.paint_many(array("q", starts), array("q", stops), values)
         for start, stop, value in entries:
             self.one.plain.update(dict.fromkeys(range(start, stop), value))
