@@ -6,7 +6,7 @@
 #     bindings/build.sh --as-proved   takes the libraries that `rt ci` has just proved here, and proves the crate range_map_c alone
 #
 # Standard error says how far it is. Exit status: 0 success; 2 wrong arguments; 70 not proved; 130 stopped. Nothing is written outside of
-# the repository.
+# the repository. If another run goes on here, this one waits for its end (by `flock`; without it, start one run at a time).
 set -euo pipefail
 source "$(dirname "$(readlink -f "${BASH_SOURCE[0]}")")/../tools/made_of.sh"
 crate=range_map_c
@@ -16,12 +16,21 @@ takes="20 to 40 minutes on four processors"
 
 say() { echo "build: $1" >&2; }
 
+# Waits for the end of another run in this folder. The lock is that of descriptor 9, and ends with this process.
+wait_for_others() {
+    if ! command -v flock >/dev/null; then return; fi
+    exec 9>>"$out/lock"
+    if flock -n 9; then return; fi
+    say "another bindings/build.sh proves the library in $root: waiting for its end"
+    flock 9
+}
+
 # Runs a command in a crate's folder, and says each half minute how far it is.
 prove() { # the crate, the command
     local name="$1"
     shift
     : >"$log"
-    if ! (cd "$root/crates/$name" && "$@" </dev/null 2>&1) | watch "$name"; then
+    if ! (cd "$root/crates/$name" && "$@" </dev/null 2>&1 9>&-) | watch "$name"; then
         if [ -n "$stopped" ]; then exit 130; fi
         grep -Ev ': proved$|^(statements|library|checked|so far|ahead)' "$log" >&2 || true
         say "$name was not proved: what \`$(basename "$1")\` said in crates/$name is above"
@@ -53,15 +62,13 @@ prove_as_proved() {
     prove "$crate" "$kit/bin/rattle" build "${words[@]}"
 }
 
-# The archive has what it takes of the C library's part too, so that a program links one file.
+# The archive has what it takes of the C library's part too, so that a program links one file. `ar` takes no path with a space.
 link_library() {
     rm -f "$out"/librange_map.*
-    ar -M <<END
-CREATE $out/librange_map.a
-ADDLIB $root/crates/$crate/out/lib$crate.a
-ADDLIB $kit/c/liblibc_c.a
-SAVE
-END
+    ln -s "$root/crates/$crate/out/lib$crate.a" "$work/proved.a"
+    ln -s "$kit/c/liblibc_c.a" "$work/libc.a"
+    (cd "$work" && printf '%s\n' 'CREATE librange_map.a' 'ADDLIB proved.a' 'ADDLIB libc.a' SAVE | ar -M)
+    mv "$work/librange_map.a" "$out"
     printf '{ global: range_map_*; range_table_*; local: *; };\n' >"$work/names"
     cc -shared -Wl,-soname,librange_map.so.0 -Wl,--version-script="$work/names" -Wl,--whole-archive "$out/librange_map.a" \
         -Wl,--no-whole-archive -o "$out/librange_map.so.0"
@@ -102,12 +109,13 @@ if ! command -v rt >/dev/null; then
     exit 70
 fi
 kit="$(dirname "$(rt doc)")"
+mkdir -p "$out"
+wait_for_others
 made="$(made_of "$crate")"
 if [ -f "$out/librange_map.a" ] && [ -f "$out/librange_map.so.0" ] && [ -f "$out/PROOF" ] && [ "$made" = "$(cat "$out/made_of" 2>/dev/null)" ]; then
     say "$out is built"
     exit
 fi
-mkdir -p "$out"
 work="$(mktemp -d -p "$out")"
 log="$work/log"
 stopped=''

@@ -26,18 +26,21 @@
  *
  * Memory. A function that may allocate returns a status. If an allocation fails, it returns RANGE_MAP_NO_MEMORY, and all maps are
  * unchanged. Three functions differ: range_map_extend and range_map_paint_many may have applied a first part of their input, and
- * range_map_combine may have changed a first part of its range. A call that changes nothing does not allocate. malloc, realloc and
- * free must belong to one allocator.
+ * range_map_combine may have changed a first part of its range. A call that changes nothing does not allocate. A new map is a change,
+ * even if *out had that content. Rows change nothing if each of them changes nothing. malloc, realloc and free must belong to one
+ * allocator.
  *
- * Threads. A map stays on the thread that made it: only this thread may change the map or free it. The proof does not cover a map that
- * moves to another thread. Several threads may look up in one map through const pointers, or read it as a const operand, at the same
- * time, as long as no call changes it meanwhile. Any thread may read a table. Do not call the library from a signal handler, or from a
- * forked child of a process with threads.
+ * Threads. One thread may make a map and another may use it, change it or free it. While a call changes or frees a map, no other call
+ * may use that map. Any number of threads may look up in one map through const pointers, or read it as a const operand, at the same
+ * time. The program orders the calls of different threads: by a lock, by the start or the join of a thread, or by an atomic. Such an
+ * atomic is stored with release and loaded with acquire. Calls on different maps need no order. Any thread may read a table. Do not
+ * call the library from a signal handler, or from a forked child of a process with threads.
  *
  * Costs. n is the number of entries of the map, or m of the other map.
  *
- * Proof. The exported functions were proved to do what their contracts say (crates/range_map_c). The static inline wrappers of this
- * header, and the walk, were tested, not proved. Lookups from several threads at the same time were tested, not proved.
+ * Proof. The exported functions were proved to do what their contracts say (crates/range_map_c), and that a map may go to another
+ * thread. The static inline wrappers of this header, and the walk, were tested, not proved. Lookups from several threads at the same
+ * time were tested, not proved.
  *
  * Platform. x86-64 Linux with glibc, and a processor with SSE4.2 and POPCNT (x86-64-v2).
  */
@@ -84,7 +87,8 @@ enum {
     RANGE_MAP_SAME_MAP = 2,    /* the map to change, or the output, is an operand too; nothing was done */
     RANGE_MAP_TAKEN = 3,       /* a key of the range has a value; nothing was done */
     RANGE_MAP_NOT_ORDERED = 4, /* the rows of a table are not in order; nothing was done */
-    RANGE_MAP_NO_ROOM = 5      /* the arrays are too short; nothing was done */
+    RANGE_MAP_NO_ROOM = 5,     /* the arrays are too short; nothing was done */
+    RANGE_MAP_INVALID = 6      /* `op` or `place` is not one of its constants; nothing was done */
 };
 
 /* What range_map_combine makes of the value of a key and the given value. */
@@ -232,9 +236,9 @@ static inline int32_t range_map_insert(struct range_map *map, int64_t key, uint6
 }
 
 /* Sets the value of each key in the range that has a value to `op` of that value and `value`. With RANGE_MAP_ALL, a key without a
- * value gets `value`; with RANGE_MAP_MAPPED, it stays without a value. If an allocation fails, a first part of the entries and gaps in
- * the range is changed, perhaps none. O(log n), O(1) for each entry and each gap in the range, and O(log n) for each of them that
- * changes. */
+ * value gets `value`; with RANGE_MAP_MAPPED, it stays without a value. Returns RANGE_MAP_INVALID and changes nothing if `op` or `place`
+ * is not one of its constants, also if the range is empty. If an allocation fails, a first part of the entries and gaps in the range is
+ * changed, perhaps none. O(log n), O(1) for each entry and each gap in the range, and O(log n) for each of them that changes. */
 static inline int32_t range_map_combine(struct range_map *map, int64_t lo, int64_t hi, uint64_t value, enum range_map_op op,
                                         enum range_map_place place) {
     return range_map_combine_unchecked(map, lo, hi, value, op, place);
@@ -536,7 +540,7 @@ static inline int32_t range_map_split_off(struct range_map *a, int64_t key, stru
 
 /* The union of n maps in an array: where several have a value, that of the last. O(s log n) for s entries in all. */
 static inline int32_t range_map_union_many(const struct range_map *maps, size_t n, struct range_map *out) {
-    struct range_map left, right;
+    struct range_map left = {NULL}, right = {NULL};
     int32_t status;
     for (size_t i = 0; i < n; i++) {
         if (range_map_is_same(&maps[i], out)) return RANGE_MAP_SAME_MAP;
@@ -544,8 +548,6 @@ static inline int32_t range_map_union_many(const struct range_map *maps, size_t 
     if (n == 0) return range_map_give_empty(out);
     if (n == 1) return range_map_copy(maps, out);
     if (n == 2) return range_map_union(&maps[0], &maps[1], out);
-    range_map_new(&left);
-    range_map_new(&right);
     status = range_map_union_many(maps, n / 2, &left);
     if (status == RANGE_MAP_DONE) status = range_map_union_many(maps + n / 2, n - n / 2, &right);
     if (status == RANGE_MAP_DONE) status = range_map_union(&left, &right, out);

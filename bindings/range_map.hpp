@@ -7,8 +7,9 @@
 // A range `first`, `last` includes both ends. If `first` is above `last`, the range is empty, which is not an error. Adjacent
 // ranges with equal values are one entry. In the costs, n is the number of entries of the map, and m that of the other map.
 //
-// A map stays on the thread that made it: only this thread may change, move or destroy the map. Lookups are const: several threads
-// may call them at the same time, as long as no call changes the map meanwhile. This was tested, not proved.
+// One thread may make a map and another may use it, change it, move it or destroy it. While a call changes, moves or destroys a map, no
+// other call may use that map. Lookups are const: any number of threads may call them at the same time, which was tested, not proved.
+// The program orders the calls of different threads: by a lock, by the start or the join of a thread, or by an atomic.
 //
 // This file wraps range_map.h. It was tested, not proved. (Its namespace has no underscore: `range_map` is the struct of C.)
 #ifndef RANGE_MAP_HPP
@@ -24,6 +25,7 @@
 #include <limits>
 #include <new>
 #include <optional>
+#include <stdexcept>
 #include <type_traits>
 #include <utility>
 #include <vector>
@@ -96,9 +98,10 @@ struct row {
     std::uint64_t value = 0;
 };
 
-/// Throws if the status of a C function says that an allocation failed.
+/// Throws if the status of a C function says that an allocation failed, or that an argument is invalid.
 inline void check(std::int32_t status) {
     if (status == RANGE_MAP_NO_MEMORY) throw std::bad_alloc();
+    if (status == RANGE_MAP_INVALID) throw std::invalid_argument("rangemap: op or place is not one of its constants");
 }
 
 } // namespace detail
@@ -290,12 +293,13 @@ template <class Key, class Value> class map {
 
     /// Sets the value of each key in the range that has a value to `by` of that value and `value`. With place::all, a key without a
     /// value gets `value`; with place::mapped, it stays without a value. The value type must be an unsigned integer of 64 bits.
-    /// Throws std::bad_alloc if an allocation fails; a first part of the entries and gaps in the range may be changed then. O(log
-    /// n), O(1) for each entry and each gap in the range, and O(log n) for each of them that changes.
+    /// Throws std::invalid_argument if `by` or `where` is not one of the constants; the map is then unchanged. Throws std::bad_alloc if
+    /// an allocation fails; a first part of the entries and gaps in the range may be changed then. O(log n), O(1) for each entry and
+    /// each gap in the range, and O(log n) for each of them that changes.
     void combine(Key first, Key last, Value value, op by, place where) {
         static_assert(std::is_unsigned_v<Value> && sizeof(Value) == 8, "Value must be an unsigned integer of 64 bits");
-        detail::check(range_map_combine(&handle, from(first), from(last), value, static_cast<range_map_op>(by),
-                                        static_cast<range_map_place>(where)));
+        detail::check(range_map_combine_unchecked(&handle, from(first), from(last), value, static_cast<std::uint32_t>(by),
+                                                  static_cast<std::uint32_t>(where)));
     }
 
     /// Removes one key. Returns the value that it had, if any. Throws std::bad_alloc if an allocation fails; the map is then
@@ -457,7 +461,7 @@ template <class Key, class Value> class map {
     /// unchanged. O(n + m) at most.
     void subtract(const map &other) {
         if (this == &other) return clear();
-        detail::check(range_map_subtract(&handle, &other.handle));
+        if (!other.empty()) detail::check(range_map_subtract(&handle, &other.handle));
     }
 
     /// Returns the map that gives the value to every key of the key type that has none in this map, and to no other key. Throws
@@ -501,8 +505,11 @@ template <class Key, class Value> class map {
     map &operator-=(const map &other) { return subtract(other), *this; }
 
     /// Keeps the keys that have a value in exactly one of the maps, with that value. Throws std::bad_alloc if an allocation
-    /// fails; the map is then unchanged. O(n + m) at most.
-    map &operator^=(const map &other) { return *this = *this ^ other; }
+    /// fails; the map is then unchanged. An empty other map does not allocate. O(n + m) at most.
+    map &operator^=(const map &other) {
+        if (!other.empty()) *this = *this ^ other;
+        return *this;
+    }
 
     /// Returns -1, 0 or 1 if the map is less than, equal to or greater than the other. Maps are ordered as their lists of (key,
     /// value) pairs: by key, then by value, and a list is greater than each of its prefixes. Keys compare as in C++. Values

@@ -3,9 +3,10 @@
 # - the header as C99 and as C++, without a warning, and that it declares what the library exports;
 # - each function with each of its allocations failing in turn (tests/c/calls.c), and random calls against a model
 #   (tests/c/random_calls.c), both under valgrind too, or under sanitizers if there is no valgrind;
-# - four threads (tests/c/threads.c), under helgrind and DRD too;
-# - the C++ header (tests/cpp), the package (tests/package.sh), and the errors of build.sh;
-# - the Python module (tests/python) and the Rust crate, with the examples of their docs;
+# - lookups from four threads (tests/c/threads.c), and maps that go from thread to thread (tests/c/hand_over.c), under helgrind and DRD too;
+# - the C++ header (tests/cpp), the package (tests/package.sh), and build.sh (tests/bindings_build.sh);
+# - the Python module (tests/python) and the Rust crate, with the examples of their docs, and their packages (tests/python_package.sh,
+#   tests/rust_package.sh);
 # - the example in each language, on random tables, against bindings/examples/expected.py (tests/examples.py);
 # - the program of README.md.
 # A test whose tool is missing is left out, and named. The last line is 'N passed, M failed'.
@@ -47,15 +48,18 @@ counts() { # what it is called here, the command
 # ---- C
 strict=(-Wall -Wextra -pedantic -Werror -g -O1 -I bindings)
 wrap=(-Wl,--wrap=malloc,--wrap=realloc,--wrap=free)
+wrap_calls=("${wrap[@]}" -Wl,--wrap=range_map_new)
 calls=(tests/c/{allocation,arguments,calls,failing,lookups,maps,results,unchanged}.c)
-builds "C99" cc -std=c99 "${strict[@]}" -o "$work/c99" "${calls[@]}" "$library" "${wrap[@]}"
+builds "C99" cc -std=c99 "${strict[@]}" -o "$work/c99" "${calls[@]}" "$library" "${wrap_calls[@]}"
 counts "failing allocations from C" "$work/c99"
-builds "random calls" cc -std=c99 "${strict[@]}" -o "$work/random" tests/c/{allocation,change,check,model,random_calls}.c "$library" "${wrap[@]}"
+builds "random calls" cc -std=c99 "${strict[@]}" -o "$work/random" tests/c/{allocation,change,check,model,quiet,random_calls}.c "$library" "${wrap[@]}"
 counts "random calls from C" "$work/random" 60000 "$RANDOM"
 builds "threads" cc -std=gnu99 "${strict[@]}" -pthread -o "$work/threads" tests/c/threads.c "$library"
-counts "look-ups from four threads" "$work/threads"
+counts "lookups from four threads" "$work/threads"
+builds "maps that go to other threads" cc -std=gnu99 "${strict[@]}" -pthread -o "$work/hand_over" tests/c/hand_over.c "$library"
+counts "maps that go from thread to thread" "$work/hand_over"
 if has c++; then
-    builds "C++" c++ -std=c++11 "${strict[@]}" -o "$work/c++" -x c++ "${calls[@]}" -x none "$library" "${wrap[@]}"
+    builds "C++" c++ -std=c++11 "${strict[@]}" -o "$work/c++" -x c++ "${calls[@]}" -x none "$library" "${wrap_calls[@]}"
     counts "failing allocations from C++" "$work/c++" 40
 fi
 if has clang; then builds "clang" clang -std=c99 "${strict[@]}" -fsyntax-only "${calls[@]}"; fi
@@ -91,50 +95,26 @@ if command -v valgrind >/dev/null; then
     check=(valgrind -q --error-exitcode=9)
     counts "failing allocations under valgrind" "${check[@]}" --leak-check=full "$work/c99" 40
     counts "random calls under valgrind" "${check[@]}" --leak-check=full "$work/random" 1500 "$RANDOM"
-    counts "threads under helgrind" "${check[@]}" --tool=helgrind "$work/threads" 2000
-    counts "threads under DRD" "${check[@]}" --tool=drd "$work/threads" 2000
+    counts "maps that go from thread to thread under valgrind" "${check[@]}" --leak-check=full "$work/hand_over" 2000
+    for tool in helgrind drd; do
+        counts "lookups from four threads under $tool" "${check[@]}" "--tool=$tool" "$work/threads" 2000
+        counts "maps that go from thread to thread under $tool" "${check[@]}" "--tool=$tool" "$work/hand_over" 2000
+    done
 else
     echo "bindings: there is no valgrind here: no test of threads by helgrind and DRD"
     for compiler in clang gcc; do
         if command -v "$compiler" >/dev/null; then
             builds "sanitizers of $compiler" "$compiler" -std=c99 "${strict[@]}" -fsanitize=address,undefined -o "$work/sanitized" \
-                "${calls[@]}" "$library" "${wrap[@]}"
+                "${calls[@]}" "$library" "${wrap_calls[@]}"
             counts "failing allocations under sanitizers of $compiler" "$work/sanitized" 40
             break
         fi
     done
 fi
 
-# ---- The package, and what build.sh refuses
+# ---- The package, and build.sh
 counts "the package" tests/package.sh
-
-# A copy of the sources, with a stand-in for `rt` that knows its version and proves nothing.
-copy="$work/copy"
-mkdir -p "$copy/bindings/out" "$work/bin"
-cp -r crates.txt tools "$copy"
-cp bindings/build.sh "$copy/bindings"
-while IFS= read -r file; do install -D -m 644 "$file" "$copy/$file"; done < <(git ls-files 'crates/*.rt' 'crates/*.antt')
-printf '#!/bin/sh\ncase "$1" in version) echo stand-in ;; doc) echo /nowhere/doc ;; *) echo "no proof today"; exit 1 ;; esac\n' >"$work/bin/rt"
-chmod +x "$work/bin/rt"
-build() { # what it is called here, the text that standard error must have, the arguments
-    local what="$1" text="$2" status=0
-    shift 2
-    PATH="$work/bin:$PATH" "$copy/bindings/build.sh" "$@" >"$work/said" 2>&1 || status=$?
-    judge 70 "$status" "$what: status"
-    judge yes "$(grep -qF "$text" "$work/said" && echo yes || echo no)" "$what: '$text'"
-}
-build "build.sh --as-proved without a proof" "the sources are not those that" --as-proved
-(
-    PATH="$work/bin:$PATH"
-    source "$copy/tools/made_of.sh"
-    mkdir -p "$copy/crates/range_map_c/out"
-    made_of range_map_c | tee "$(note_of range_map_c)" >"$copy/bindings/out/made_of"
-    touch "$copy/bindings/out/librange_map.so.0" "$copy/bindings/out/PROOF"
-)
-build "build.sh without the archive" "blaze_int was not proved"
-echo '// changed' >>"$copy/crates/blaze_int/src/lib.rt"
-build "build.sh --as-proved over changed sources" "the sources are not those that" --as-proved
-judge 2 "$(bindings/build.sh --as >"$work/said" 2>&1 && echo 0 || echo $?)" "build.sh with a wrong argument"
+counts "build.sh" tests/bindings_build.sh
 
 # ---- Python
 commands=("$work/owners")
@@ -144,18 +124,7 @@ else
     rm -f bindings/python/range_map/__init__.*.so # (it may have another library linked in, which is no older)
     builds "the Python module" make --no-print-directory -s -C bindings python "PYTHON=$python"
     counts "the Python module, tested" "$python" tests/python
-    if "$python" -c 'import wheel, venv, ensurepip' 2>/dev/null; then
-        # Installed into an environment of its own, and used without the toolchain in the path.
-        mkdir "$work/wheel"
-        cp "$out"/librange_map.a "$out"/librange_map.so* "$out"/PROOF "$work/wheel"
-        judge 0 "$(RANGE_MAP_OUT="$work/wheel" make --no-print-directory -s -C bindings wheel "PYTHON=$python" >"$work/said" 2>&1 && echo 0 || echo $?)" "the wheel"
-        builds "an environment for the wheel" "$python" -m venv "$work/venv"
-        builds "the wheel, installed" "$work/venv/bin/pip" --disable-pip-version-check install -q --no-index "$work"/wheel/range_map-*.whl
-        says='from range_map import RangeMap; m = RangeMap(); m[2:6] = "a"; m[4:10] = "b"; print(m)'
-        judge "RangeMap([(2, 4, 'a'), (4, 10, 'b')])" "$(cd "$work" && env -i "$work/venv/bin/python" -c "$says" 2>&1)" "what the wheel prints"
-    else
-        echo "bindings: there is no python3-wheel or python3-venv here: the wheel is left out"
-    fi
+    counts "the Python package" tests/python_package.sh
     commands+=("$python bindings/examples/owners.py")
     if "$python" -c 'import dask, distributed' 2>/dev/null; then
         judge 0 "$("$python" bindings/examples/cluster.py 100000 >"$work/said" 2>&1 && echo 0 || echo $?)" "the example over Dask"
@@ -179,6 +148,7 @@ if has cargo; then
     builds "the library, installed" make --no-print-directory -s -C bindings "RANGE_MAP_OUT=$out" "PREFIX=$work/installed" install
     export RANGE_MAP_LIB_DIR="$work/installed/lib"
     counts "the Rust crate" crate_tests
+    counts "the Rust package" tests/rust_package.sh
     if cargo clippy --version >/dev/null 2>&1; then
         builds "clippy" cargo clippy -q "${crate[@]}" --all-targets -- -D warnings
     fi
@@ -202,6 +172,20 @@ for command in "${commands[@]}"; do
     judge "$(cat bindings/examples/owners.expected)" "$($command "${tables[@]}")" "$command"
 done
 counts "the examples on random tables" python3 tests/examples.py "${commands[@]}"
+# A table that can't be read, the first or the second, and an output that can't be written.
+fails() { # what it is called here, the file for the output, the command
+    local what="$1" output="$2"
+    shift 2
+    judge failed "$("$@" 2>"$work/said" >"$output" && echo passed || echo failed)" "$what"
+}
+for command in "${commands[@]}"; do
+    read -ra words <<<"$command"
+    for unreadable in "$work" /proc/self/mem; do
+        fails "$command of $unreadable" "$work/output" "${words[@]}" "$unreadable" "${tables[1]}"
+        fails "$command of a table and $unreadable" "$work/output" "${words[@]}" "${tables[0]}" "$unreadable"
+    done
+    fails "$command with a full disk" /dev/full "${words[@]}" "${tables[@]}"
+done
 if command -v valgrind >/dev/null; then
     judge "$(cat bindings/examples/owners.expected)" "$(valgrind -q --leak-check=full --error-exitcode=9 "$work/owners" "${tables[@]}" 2>&1)" \
         "the example in C under valgrind"

@@ -61,6 +61,30 @@ judge '' "$(find "$work/root" -name 'range_map*')" "folders that make uninstall 
 multi=(PREFIX="$work/multi" libdir="$work/multi/lib/x86_64-linux-gnu" includedir="$work/multi/include/range_map")
 does "make install to other folders" "${make[@]}" install "${multi[@]}"
 
+# ---- Folders with a space: DESTDIR and the sources may have one, the others are rejected before a file is written
+does "make install to a folder with a space" "${make[@]}" install PREFIX=/usr "DESTDIR=$work/root of all"
+judge "$installed" "$(files "$work/root of all/usr")" "the installed files in a folder with a space"
+does "make uninstall from a folder with a space" "${make[@]}" uninstall PREFIX=/usr "DESTDIR=$work/root of all"
+judge '' "$(files "$work/root of all")" "what make uninstall leaves in a folder with a space"
+# The files here and those that are new in bindings/.
+all_files() { find "$work" "$bindings" -maxdepth 1 -name said -prune -o -printf '%p\n' | LC_ALL=C sort; }
+before="$(all_files)"
+for variable in PREFIX includedir libdir docdir RANGE_MAP_OUT; do
+    for at in "$work/some place" "$work/place "; do
+        what="make install $variable='$at'"
+        judge 2 "$(clean "${make[@]}" install PREFIX="$work/place" "$variable=$at" >"$work/said" 2>&1 && echo 0 || echo $?)" "$what"
+        judge 1 "$(grep -cF "$variable must be a path without spaces, and is '$at'" "$work/said")" "$what: what it says"
+        judge "$before" "$(all_files)" "$what: files"
+    done
+done
+mkdir -p "$work/the sources/bindings"
+cp -r "$bindings"/{Makefile,range_map*,README.package,examples} "$work/the sources/bindings"
+cp "$bindings"/../LICENSE* "$work/the sources"
+cp -rP "$work/out" "$work/the sources/bindings"
+sources=(make --no-print-directory -C "$work/the sources/bindings")
+does "make check in a folder with a space" "${sources[@]}" check
+does "make dist in a folder with a space" "${sources[@]}" dist SOURCE_DATE_EPOCH=1
+
 # ---- The archive
 does "make dist" "${make[@]}" dist
 archive="$work/out/$name-x86_64-linux-gnu.tar.gz"
@@ -68,6 +92,7 @@ judge "$archive" "$(tail -n 1 "$work/said")" "the name of the archive"
 cp "$archive" "$work/first.tar.gz"
 does "make dist, again" "${make[@]}" dist
 judge same "$(cmp "$archive" "$work/first.tar.gz" && echo same)" "two archives of one library"
+judge "$(tar -tzf "$archive")" "$(tar -tzf "$work/the sources/bindings/out/${archive##*/}" 2>&1)" "the archive of a folder with a space: files"
 mkdir "$work/some where"
 does "tar" tar -C "$work/some where" -xzf "$archive"
 judge "$name" "$(ls "$work/some where")" "the one folder of the archive"
@@ -85,6 +110,10 @@ judge "$declared" "$(nm -D --defined-only "$lib/librange_map.so.0" | sed -n 's/^
 judge '[librange_map.so.0]' "$(readelf -d "$lib/librange_map.so.0" | sed -n 's/.*(SONAME).* //p')" "SONAME"
 judge '[libc.so.6]' "$(readelf -d "$lib/librange_map.so.0" | sed -n 's/.*(NEEDED).* //p' | paste -sd ' ')" "libraries that the shared library needs"
 judge librange_map.so.0 "$(readlink "$lib/librange_map.so")" "the link librange_map.so"
+symbols() { nm "$@" "$lib/librange_map.a" 2>/dev/null | grep -oE '[^ ]+$' | LC_ALL=C sort -u; }
+called="$(LC_ALL=C comm -23 <(symbols -u) <(symbols --defined-only))"
+named="$(sed -n 's/^Calls: //p' "$work/unpacked/README" | { grep -oE '[a-z]+' || true; } | LC_ALL=C sort -u)"
+judge '' "$(LC_ALL=C comm -23 <(echo "$called") <(echo "$named"))" "what the library calls and README does not name"
 
 # ---- cc and c++
 here="$work/programs"

@@ -73,6 +73,7 @@ static void read_table(const char *path, struct range_map *table) {
             exit(1);
         }
     }
+    if (ferror(file)) fail("a file cannot be read"); /* a folder, too, is opened */
     fclose(file);
 }
 
@@ -120,5 +121,6 @@ int main(int argc, char **argv) {
     range_map_free(&new_table);
     range_map_free(&merged);
     range_map_free(&moved);
+    if (ferror(stdout) || fclose(stdout) != 0) fail("the output cannot be written");
     return 0;
 }

@@ -1,6 +1,7 @@
-/* NULL for each result, a map that is passed twice, empty arrays, and the least and greatest keys. */
+/* NULL for each result, a map that is passed twice, empty arrays, the least and greatest keys, and operations that there are not. */
 #include <stdlib.h>
 
+#include "allocation.h"
 #include "maps.h"
 
 static bool had;
@@ -116,8 +117,56 @@ static void test_all_keys(void) {
     judge_freed(0);
 }
 
+/* In C++ an enum can't hold every number. */
+static int32_t combine_by(struct range_map *map, int64_t lo, int64_t hi, uint32_t op, uint32_t place) {
+#ifdef __cplusplus
+    return range_map_combine_unchecked(map, lo, hi, 7, op, place);
+#else
+    return range_map_combine(map, lo, hi, 7, (enum range_map_op)op, (enum range_map_place)place);
+#endif
+}
+
+/* An operation and a place of which one is invalid, on an empty map and on one with entries, with an allocation that fails. */
+static void judge_invalid(uint32_t op, uint32_t place) {
+    static const int64_t lo[] = {2, INT64_MIN, 9, 6}, hi[] = {33, INT64_MAX, 2, 9}; /* the third is empty, the last has no value */
+    static struct contents before, now;
+    for (long size = 0; size < 6; size += 5) {
+        struct maps m;
+        void *at;
+        start(&m, size);
+        read_contents(&m, &before);
+        at = m.a.at;
+        requests = 0;
+        failing_request = 1;
+        for (size_t range = 0; range < sizeof lo / sizeof lo[0]; range++) {
+            judge(combine_by(&m.a, lo[range], hi[range], op, place) == RANGE_MAP_INVALID && requests == 0, "combine, invalid", op, place);
+        }
+        failing_request = 0;
+        read_contents(&m, &now);
+        judge(is_equal(&now, &before) && m.a.at == at, "the maps after an invalid combination", op, place);
+        end(&m);
+        judge_freed(size);
+    }
+}
+
+/* All small numbers, and those that are valid if only their low bits are read. */
+static void test_invalid_operations(void) {
+    for (uint32_t number = 2; number < 300; number++) {
+        judge_invalid(RANGE_MAP_ADD, number);
+        if (number > RANGE_MAP_KEEP_OLD) judge_invalid(number, RANGE_MAP_MAPPED);
+    }
+    for (uint32_t bit = 256; bit; bit <<= 1) {
+        judge_invalid(bit + RANGE_MAP_MAX, RANGE_MAP_ALL);
+        judge_invalid(RANGE_MAP_MAX, bit + RANGE_MAP_MAPPED);
+    }
+    judge_invalid(UINT32_MAX, RANGE_MAP_ALL);
+    judge_invalid(RANGE_MAP_KEEP_OLD, UINT32_MAX);
+    judge_invalid(UINT32_MAX, UINT32_MAX);
+}
+
 void test_arguments(void) {
     test_no_results();
     test_maps_passed_twice();
     test_all_keys();
+    test_invalid_operations();
 }

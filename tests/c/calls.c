@@ -3,9 +3,9 @@
  * - lookups.c: the calls that do not allocate;
  * - results.c: what each call leaves and returns;
  * - unchanged.c: calls that change nothing, and so make no request;
- * - arguments.c: NULL for each result, a map that is passed twice, empty arrays, and the least and greatest keys.
- * The program is linked with --wrap of malloc, realloc and free. An argument is the greatest number of entries of a map. The last line
- * is 'N passed, M failed'. The files are C99 and C++. */
+ * - arguments.c: NULL for each result, a map that is passed twice, empty arrays, the least and greatest keys, and invalid operations.
+ * The program is linked with --wrap of malloc, realloc, free and range_map_new. An argument is the greatest number of entries of a map.
+ * The last line is 'N passed, M failed'. The files are C99 and C++. */
 #include <stdio.h>
 #include <stdlib.h>
 

@@ -157,6 +157,7 @@ static int32_t split_off(const struct change *c, struct model *model, struct ran
         if (k >= c->i) other->has[k] = false;
     }
     status = range_map_split_off(&maps[c->other], start_of[c->i], map);
+    if (is_same_model(other, &before)) judge(status == RANGE_MAP_DONE && !requests, "split_off that moves nothing");
     if (status != RANGE_MAP_DONE) *other = before;
     return status;
 }
@@ -205,6 +206,7 @@ static int32_t paint_many(const struct change *c, struct model *model, struct ra
     int64_t lo[ROWS], hi[ROWS];
     uint64_t value[ROWS];
     int32_t status;
+    bool is_changed = false;
     (void)c;
     for (int row = 0; row < ROWS; row++) {
         int first = (int)draw(ATOMS), last = (int)draw(ATOMS);
@@ -212,11 +214,13 @@ static int32_t paint_many(const struct change *c, struct model *model, struct ra
         hi[row] = end_of[last];
         value[row] = draw(3);
         for (int k = first; k <= last; k++) {
+            is_changed |= !model->has[k] || model->value[k] != value[row];
             model->has[k] = true;
             model->value[k] = value[row];
         }
     }
     status = range_map_paint_many(map, lo, hi, value, ROWS);
+    if (!is_changed) judge(status == RANGE_MAP_DONE && !requests, "rows that change nothing");
     if (status == RANGE_MAP_NO_MEMORY) {
         failing_request = 0;
         status = range_map_paint_many(map, lo, hi, value, ROWS);
@@ -230,7 +234,7 @@ static struct model part_combined(const struct range_map *map, const struct mode
     struct model model = *old;
     for (int k = i; k <= j && !is_content(map, &model); k++) {
         combine_model(&model, k, k, value, op, place);
-        while (k < j && is_same_value(old, k, k + 1)) {
+        while (k < j && are_one(old, k, k + 1)) {
             k++;
             combine_model(&model, k, k, value, op, place);
         }
@@ -280,15 +284,20 @@ static int32_t compare(const struct change *c, struct model *model, struct range
     return RANGE_MAP_DONE;
 }
 
+typedef int32_t call(const struct change *, struct model *, struct range_map *);
+
 int32_t make_call(const struct change *change) {
-    static int32_t (*const calls[])(const struct change *, struct model *, struct range_map *) = {
-        paint,  fill,      fill_if_free, remove_range, insert,  remove_key, pop_first,  pop_last, extend,
-        intersect, subtract, split_off,    operate,      complement, paint_many, combine, combine,  compare,
+    static call *const calls[] = {
+        /* These change one map, and a call that changes nothing makes no request. */
+        paint, fill, fill_if_free, remove_range, insert, remove_key, pop_first, pop_last, extend, intersect, subtract, compare,
+        /* These see to it themselves, make a map, or may have changed a part. */
+        split_off, paint_many, operate, complement, combine, combine,
     };
-    enum { CALLS = sizeof calls / sizeof calls[0] };
+    enum { CALLS = sizeof calls / sizeof calls[0], QUIET = 12 };
     struct model *model = &models[change->map], before = *model;
     uint64_t which = draw(CALLS);
     int32_t status = calls[which](change, model, &maps[change->map]);
+    if (which < QUIET && is_same_model(model, &before)) judge(status == RANGE_MAP_DONE && !requests, "a call that changes nothing");
     /* A combination may have changed a part. */
     if (status == RANGE_MAP_NO_MEMORY && calls[which] != combine) *model = before;
     return status;

@@ -1,5 +1,4 @@
-/* The lookups of a map, compared with its model, and calls that change nothing. */
-#include "allocation.h"
+/* The lookups of a map, compared with its model. */
 #include "model.h"
 
 /* A map, its model, and the entries that the model gives. */
@@ -17,7 +16,7 @@ static void make_view(struct view *view, int map) {
     view->model = model;
     view->count = 0;
     for (int i = 0, j; i < ATOMS; i = j) {
-        for (j = i + 1; j < ATOMS && is_same_value(model, i, j); j++) {}
+        for (j = i + 1; j < ATOMS && are_one(model, i, j); j++) {}
         if (!model->has[i]) continue;
         view->lo[view->count] = start_of[i];
         view->hi[view->count] = end_of[j - 1];
@@ -80,8 +79,8 @@ static void check_at(const struct view *view, int i) {
     uint64_t value = 0, at = 0;
     int64_t lo = 0, hi = 0;
     int first = i, last = i;
-    while (first > 0 && is_same_value(model, first - 1, i)) first--;
-    while (last < ATOMS - 1 && is_same_value(model, last + 1, i)) last++;
+    while (first > 0 && are_one(model, first - 1, i)) first--;
+    while (last < ATOMS - 1 && are_one(model, last + 1, i)) last++;
     judge(range_map_get(view->map, start_of[i], &value) == model->has[i] && (!model->has[i] || value == model->value[i]), "get");
     value = 7777;
     judge(range_map_entry_or_gap_at_unchecked(view->map, end_of[i], &lo, &hi, &value) == model->has[i] && lo == start_of[first] &&
@@ -165,24 +164,4 @@ void check(int map) {
     check_at(&view, i);
     check_gaps(&view, i, j);
     check_table(&view, i, j);
-}
-
-static void judge_quiet(int32_t status, const char *what) { judge(status == RANGE_MAP_DONE && !requests, what); }
-
-void check_unchanged(const struct change *c) {
-    const struct model *model = &models[c->map];
-    struct range_map *map = &maps[c->map];
-    int64_t lo = start_of[c->i], hi = end_of[c->j];
-    int k = c->i;
-    requests = 0;
-    while (k <= c->j && model->has[k] && model->value[k] == c->value) k++;
-    if (k > c->j) judge_quiet(range_map_paint(map, lo, hi, c->value, NULL), "a paint that changes nothing");
-    for (k = c->i; k <= c->j && !model->has[k]; k++) {}
-    if (k > c->j) judge_quiet(range_map_remove_range(map, lo, hi, NULL), "a removal that changes nothing");
-    for (int op = RANGE_MAP_ADD; op <= RANGE_MAP_KEEP_OLD; op++) {
-        struct model changed = *model;
-        enum range_map_place place = (enum range_map_place)draw(2);
-        if (combine_model(&changed, c->i, c->j, c->value, (enum range_map_op)op, place)) continue;
-        judge_quiet(range_map_combine(map, lo, hi, c->value, (enum range_map_op)op, place), "a combination that changes nothing");
-    }
 }

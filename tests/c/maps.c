@@ -19,6 +19,20 @@ void judge(bool good, const char *what, long size, long request) {
 
 void judge_freed(long size) { judge(blocks == 0, "memory that is not freed", size, blocks); }
 
+/* Each struct that the library or the header makes a new map of is zero before. (valgrind finds one that was not written.) */
+#ifdef __cplusplus
+extern "C" {
+#endif
+void __real_range_map_new(struct range_map *map);
+void __wrap_range_map_new(struct range_map *map);
+#ifdef __cplusplus
+}
+#endif
+void __wrap_range_map_new(struct range_map *map) {
+    judge(map->at == NULL, "a struct that is not zero", 0, 0);
+    __real_range_map_new(map);
+}
+
 void read_content(const struct range_map *map, struct content *into) {
     int64_t at = INT64_MIN, lo, hi;
     uint64_t value;

@@ -44,8 +44,18 @@ void make_atoms(void) {
 
 wide size_of(int atom) { return (wide)((uint64_t)end_of[atom] - (uint64_t)start_of[atom]) + 1; }
 
-bool is_same_value(const struct model *model, int one, int other) {
+bool are_one(const struct model *model, int one, int other) {
     return model->has[one] == model->has[other] && (!model->has[one] || model->value[one] == model->value[other]);
+}
+
+bool is_same_value(const struct model *one, const struct model *other, int atom) {
+    return one->has[atom] == other->has[atom] && (!one->has[atom] || one->value[atom] == other->value[atom]);
+}
+
+bool is_same_model(const struct model *one, const struct model *other) {
+    int atom = 0;
+    while (atom < ATOMS && is_same_value(one, other, atom)) atom++;
+    return atom == ATOMS;
 }
 
 bool is_content(const struct range_map *map, const struct model *model) {

@@ -28,7 +28,11 @@ void make_atoms(void);
 wide size_of(int atom);
 
 /* Whether two atoms have equal values, or neither has a value. */
-bool is_same_value(const struct model *model, int one, int other);
+bool are_one(const struct model *model, int one, int other);
+
+/* Whether an atom has equal values in two models, or no value in both. */
+bool is_same_value(const struct model *one, const struct model *other, int atom);
+bool is_same_model(const struct model *one, const struct model *other);
 bool is_content(const struct range_map *map, const struct model *model);
 
 /* Combines the values of the atoms i to j with a value, and returns whether one of them changes. */
@@ -47,7 +51,7 @@ int32_t make_call(const struct change *change);
 /* Compares all lookups of a map with its model, some of them at random keys. */
 void check(int map);
 
-/* Makes calls that change nothing. They must make no request for memory. */
+/* Makes calls that change nothing, with the first allocation failing. They must make no request for memory. */
 void check_unchanged(const struct change *change);
 
 #endif

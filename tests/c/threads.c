@@ -1,6 +1,5 @@
-/* Look-ups from four threads at once: in one map, through a const pointer, and in a table that lies in a mapped file. Only the thread
- * that made a map changes it and frees it. An argument is the number of look-ups of each thread. The last line is 'N passed, M failed'.
- * It is also run under helgrind and DRD. */
+/* Lookups from four threads at once: in one map, through a const pointer, and in a table that is in a mapped file. An argument is the
+ * number of lookups of each thread. The last line is 'N passed, M failed'. It is also run under helgrind and DRD. */
 #include <pthread.h>
 #include <stdio.h>
 #include <stdlib.h>

@@ -96,6 +96,32 @@ void test_calls_that_do_not_allocate() {
     judge(is_unchanged && asked == 0, "calls that do not allocate");
 }
 
+// Compound operators that change nothing.
+void test_operators_that_do_not_allocate() {
+    const numbers empty, before = map_of(100, 10, 0), apart = map_of(100, 10, 2000), inside = {{3, 5, 0}, {990, 992, 99}};
+    numbers map = before, none, over = before;
+    const numbers &same = map;
+    over.paint(7, 8, 5);
+    requests = 0;
+    map -= empty;
+    map ^= empty;
+    map |= empty;
+    map -= apart;
+    map |= inside;
+    map |= same;
+    map &= same;
+    map &= over;
+    none ^= empty;
+    none |= empty;
+    none &= before;
+    none -= before;
+    map.subtract(empty);
+    map.extend(inside);
+    map.intersect(over);
+    const long asked = requests;
+    judge(map == before && none.empty() && asked == 0, "operators that do not allocate");
+}
+
 } // namespace
 
 void test_failing_allocations() {
@@ -103,4 +129,5 @@ void test_failing_allocations() {
         for (int size : {0, 1, 2, 40, 300}) fail_each(call, size);
     }
     test_calls_that_do_not_allocate();
+    test_operators_that_do_not_allocate();
 }

@@ -3,6 +3,7 @@
 
 #include <algorithm>
 #include <array>
+#include <stdexcept>
 
 static void judge_list(const numbers &map, const std::vector<numbers::entry> &wanted, const char *what) {
     judge(list(map) == wanted, what);
@@ -168,6 +169,24 @@ static void test_combine() {
     judge(list(depth) == decltype(list(depth)){{0, 4, 4}, {5, 9, 1}, {20, 29, 2}}, "combine, the lesser");
 }
 
+// An operation and a place of which one is invalid, on ranges with keys and on an empty one.
+static void test_invalid_operations() {
+    const std::pair<std::uint32_t, std::uint32_t> invalid[] = {{7, 0}, {8, 1}, {0, 2}, {6, 3}, {UINT32_MAX, 0}, {256, 1}, {1, UINT32_MAX}};
+    rangemap::map<int, std::uint64_t> depth = {{0, 9, 1}, {20, 29, 6}};
+    const auto before = depth;
+    for (auto [op, place] : invalid) {
+        for (int last : {24, 30, 4}) {
+            bool has_thrown = false;
+            try {
+                depth.combine(5, last, 3, static_cast<rangemap::op>(op), static_cast<rangemap::place>(place));
+            } catch (const std::invalid_argument &) {
+                has_thrown = true;
+            }
+            judge(has_thrown && depth == before, "combine, invalid " + std::to_string(op) + " " + std::to_string(place));
+        }
+    }
+}
+
 static void test_all_keys() {
     rangemap::map<std::uint64_t, id> places;
     judge(places.paint(0, UINT64_MAX, id(4)) && places.count() == UINT64_MAX && places.size() == 1, "all 2^64 keys");
@@ -189,5 +208,6 @@ void test_members() {
     test_order();
     test_lists_and_iterators();
     test_combine();
+    test_invalid_operations();
     test_all_keys();
 }
