@@ -16,7 +16,6 @@ For each crate, first the control: the right bodies of all these functions must 
 wrong body is tried over what the control kept, in the same folder. It must be rejected at the named goal, and so not proved. The last
 line is 'N passed, M failed'."""
 import argparse
-import os
 import re
 import resource
 import shutil
