@@ -1,5 +1,5 @@
-//! Each public type may go to another thread and be shared by threads (`Send`, `Sync`), if its keys and values may. The check of this
-//! crate proves that of one use of each type. Left out is `IntoRangeValuesIter`, which holds an `Rc`, as in Rust.
+//! Each type that `range_map_blaze` exports, `RangeTable` and the entries below it may go to another thread and be shared by threads
+//! (`Send`, `Sync`), if their keys and values may. The check of this crate proves that of one use of each type. Left out is `IntoRangeValuesIter`, which holds an `Rc`, as in Rust.
 #![tactic(auto)]
 
 use blaze_entries::{Count, Counted, Entries, IntoIter, Iter, Range, RangeEntry};
