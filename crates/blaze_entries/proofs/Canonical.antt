@@ -7,6 +7,8 @@ pub mod Shortest
 pub mod Mapped
 pub mod Counted
 pub mod Kept
+pub mod EntryAt
+pub mod EntryRuns
 pub mod RangeMaps
 pub mod Clones
 pub mod SameLists

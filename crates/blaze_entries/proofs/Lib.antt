@@ -5,6 +5,7 @@ pub mod Halves
 pub mod Held
 pub mod Borrowed
 pub mod Moves
+pub mod Plain
 pub mod NodeLists
 pub mod Views
 pub mod Steps

@@ -1,7 +1,7 @@
 -- The names from other crates that this crate's proofs use. The files of proofs import them from here.
 pub use Rattle.std.proofs.Common.{◌≡◌, ◌+◌, length, ℤ, pos, ◌+ℤ◌, ◌≤ℤ◌, ◌<ℤ◌, true, false, cond, List, [], ◌∷◌, Option, Some, None, refl, ◌∙◌, sym, subst, ap, arith, Bool, ℕ, ◌++◌, ◌⊎◌, inl, inr, ◌≤◌, ◌-ℤ◌, append_assoc, length-append, ◌<◌, ◌-◌, not, ◌&&◌, Result, Ok, Err, rules, ⊎_elim, negsuc, zero, suc, drop, get_or, take, slice_set}
 pub use Rattle.std.proofs.Math.Seq.{drop-cons, set-append_seam, take-length}
-pub use Rattle.std.proofs.lemmas.Bool.{and_parts}
+pub use Rattle.std.proofs.lemmas.Bool.{and_parts, eqb-true}
 pub use Rattle.std.proofs.lemmas.Cmp.{eq_by_cmp_equiv, int_cmp_total}
 pub use Rattle.std.proofs.lemmas.Int.{ints, by_lt_z}
 pub use Rattle.std.proofs.lemmas.List.{length-map, map-append, take_more, length-take-le}
@@ -9,7 +9,7 @@ pub use Rattle.std.proofs.lemmas.List.Elements.{filter-append, Contains-append_l
 pub use Rattle.std.proofs.lemmas.List.Filters.{length-filter_both}
 pub use Rattle.std.proofs.lemmas.Map.Keys.{IsDistinct-from_sorted}
 pub use Rattle.std.proofs.lemmas.Map.Made.{update_all_none}
-pub use Rattle.std.proofs.lemmas.Option.{slice_get-map, MatchOption-at_some, MatchOption-at_none}
+pub use Rattle.std.proofs.lemmas.Option.{same_Some, slice_get-map, MatchOption-at_some, MatchOption-at_none}
 pub use Rattle.std.specs.BTreeMap.{is_at, IsFromIterResult, BTreeMap, insert_entry}
 pub use Rattle.std.specs.BTreeMap.Range.{entries_between, entries_below, entries_from}
 pub use Rattle.std.specs.Bool.{Decides}
@@ -25,7 +25,7 @@ pub use Rattle.std.specs.Map.Calls.{CallableOnEachPair, RetainsPairs, SomeCallAt
 pub use Rattle.std.specs.Map.Iter.{TakesFirst, TakesLast, deref_pair}
 pub use Rattle.std.specs.Option.{option_map, is_some, option_or, option_copied}
 pub use Rattle.std.specs.Ordering.{int_eq, int_cmp, eq_by_cmp, on, match_ordering, is_gt, is_le, is_lt}
-pub use Rattle.std.specs.Prelude.{IsSome, map, int_lt, int_le, ◌||◌, IfSome, IsSomeAnd, OnErr, ◌↔◌, MatchOption, IfNone, slice_index_or}
+pub use Rattle.std.specs.Prelude.{nat_eq, IsSome, map, int_lt, int_le, ◌||◌, IfSome, IsSomeAnd, OnErr, ◌↔◌, MatchOption, IfNone, slice_index_or}
 pub use Rattle.std.specs.declared.cmp.Ordering.{Ordering}
 pub use Rattle.std.specs.declared.cmp.Ordering.TheVariants.{Less, Equal, Greater}
 pub use Rattle.std.specs.declared.ops.Bound.TheVariants.{Included, Excluded, Unbounded}
@@ -37,8 +37,9 @@ pub use Rattle.blaze_entries.specs.Changed.{changed}
 pub use Rattle.blaze_entries.specs.Cloned.{AreCloned}
 pub use Rattle.blaze_entries.specs.Count.{keys_in, mapped_keys}
 pub use Rattle.blaze_entries.specs.Counted.{CountedEntries, uncounted}
-pub use Rattle.blaze_entries.specs.Cut.{IsKeyRemoved, IsSplit}
-pub use Rattle.blaze_entries.specs.Ending.{ending_from}
+pub use Rattle.blaze_entries.specs.Chosen.{IsChosen}
+pub use Rattle.blaze_entries.specs.Cut.{cut_at, cut_range_at, IsKeyRemoved, IsSplit}
+pub use Rattle.blaze_entries.specs.Ending.{ending_from, overlapping}
 pub use Rattle.blaze_entries.specs.Entries.{Entry, entry, shown_entry, at, SameOption, holds, SameContent, SameEntries, shown_list, entry_at}
 pub use Rattle.blaze_entries.specs.Equality.{same_entry, same_entries}
 pub use Rattle.blaze_entries.specs.Found.{found_in, shown_found, IsFoundAt, is_sought}
@@ -48,6 +49,7 @@ pub use Rattle.blaze_entries.specs.Nodes.{shown_nodes, shown_node_at, full_node,
 pub use Rattle.blaze_entries.specs.Overlap.{shared_count, overlap, covered_keys}
 pub use Rattle.blaze_entries.specs.Painted.{ClonesAreAlike, IsInside, IsPainted, IsApartFrom, IsAlreadyIn, LeavesAlone, painted_content}
 pub use Rattle.blaze_entries.specs.RangeSets.{unit_eq}
+pub use Rattle.blaze_entries.specs.Run.{IsRun}
 pub use Rattle.blaze_entries.specs.Splice.{before, after, glue, IsPaintOf, IsTablePainted, IsKeyCut, IsListSplit, IsBelow, IsSameAbove, paint, IsListPainted, is_joinable, join}
 pub use Rattle.blaze_entries.specs.Starts.{StartsAscend, start_at, with_entry, without, with_end_value, IsStartMoved, IsFrontReplaced, below, from, last_below, up_to, first_entry, first_from, with_end, with_last_end, entry_reaching, holder_of, IsCloneInserted}
 pub use Rattle.blaze_entries.specs.Table.{IsTable}

@@ -20,6 +20,7 @@ pub mod Laws
 pub mod Painted
 pub mod Pairs
 pub mod RangeSets
+pub mod Run
 pub mod Splice
 pub mod Table
 pub mod Whole

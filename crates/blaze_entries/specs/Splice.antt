@@ -63,7 +63,7 @@ pub record IsListPainted {V : Type 0} (eq : V → V → Bool) (p : Entry V) (old
   pub content : (k : ℤ) → SameOption eq (at new k) (painted_content p.lo p.hi p.value (at old) k)
   pub few : length new ≤ length old + 2
   pub alone : old ≡ [] → length new ≤ 1
-  pub kept : (e : Entry V) → Contains old e → IsApartFrom p e → Contains new e
+  pub kept : (e : Entry V) → Contains old e → IsApartFrom eq p e → Contains new e
 
 -- A painted list of a table, with its number of keys. It has at most one entry more than the parts below and above the
 -- painted keys.

@@ -1,5 +1,5 @@
 -- The choice from two streams so far, and one more piece.
-use Rattle.blaze_streams.proofs.Words.{option_or, ◌≡◌, ℤ, pos, ◌+ℤ◌, ◌-ℤ◌, ◌≤ℤ◌, ◌<ℤ◌, Bool, List, [], ◌∷◌, Option, Some, None, refl, ◌∙◌, sym, ap, arith, ⊎_elim, IsEquivalence, ints, by_lt_z, same_along, same_itself, same_trans, same_or_left, same_or_right, same_back, or_assoc, or_none, none_or, Entry, entry, at, SameOption, IsCanonical, AreKeys, IsChosen, glue, after, IsBelow, are_keys_glue, IsAbove, at_in, at_under, at_over, glue-nil, one_per_run, canonical_glue, at_glue, below_glue, below_more, above_after, at-after_over, IsTaken, PutsValue, PutsAlike, first_key, IsFrom, lesser}
+use Rattle.blaze_streams.proofs.Words.{option_or, ◌≡◌, ℤ, pos, ◌+ℤ◌, ◌-ℤ◌, ◌≤ℤ◌, ◌<ℤ◌, Bool, List, [], ◌∷◌, Option, Some, None, refl, ◌∙◌, sym, ap, arith, ⊎_elim, IsEquivalence, ints, by_lt_z, same_along, same_itself, same_trans, same_or_left, same_or_right, same_back, or_assoc, or_none, none_or, Entry, entry, at, SameOption, IsCanonical, AreKeys, IsChosen, glue, after, IsBelow, are_keys_glue, IsAbove, at_in, at_under, at_over, glue-nil, one_per_run, canonical_glue, at_glue, below_glue, below_more, above_after, at-after_over, IsTaken, PutsValue, PutsAlike, first_key, IsFrom, lesser, chosen}
 use Rattle.blaze_streams.proofs.Steady.{same_some, from_first, at_below_from, at-after_under}
 use Rattle.blaze_streams.proofs.Lesser.{at_most_both, at_most_itself, lesser_one, some_lesser}
 
@@ -68,10 +68,8 @@ module _ {A B V : Type 0} (eq : V → V → Bool) (laws : IsEquivalence eq) (low
 
   -- if the choice has no value on the remaining keys, the list is complete
   pub chosen_all : (left L : List (Entry A)) (right R : List (Entry B)) (out : List (Entry V)) → IsChosenSoFar eq low high choose left right L R out → ((k : ℤ) → chosen_at choose L R k ≡ None) → IsChosen eq low high choose left right out
-  chosen_all left L right R out c none = record {
-    range_map = record { runs = one_per_run eq laws out c.canonical; keys = c.keys };
-    content = λ k. same_along eq (ap (option_or (at out k)) (none k) ∙ or_none (at out k)) refl (c.content k);
-  }
+  chosen_all left L right R out c none =
+      chosen (record { runs = one_per_run eq laws out c.canonical; keys = c.keys }) (λ k. same_along eq (ap (option_or (at out k)) (none k) ∙ or_none (at out k)) refl (c.content k))
 
   module _ (eqa : A → A → Bool) (eqb : B → B → Bool) (nothing : choose None None ≡ None) (L L' : List (Entry A)) (R R' : List (Entry B)) (f t : ℤ) (value : Option V) (ca : IsCanonical eqa L) (cb : IsCanonical eqb R) (taken : IsTaken eq choose L L' R R' f t value) where
     none_under : (k : ℤ) → k <ℤ f → chosen_at choose L R k ≡ None

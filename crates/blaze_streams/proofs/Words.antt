@@ -48,6 +48,7 @@ pub use Rattle.blaze_entries.proofs.Lists.Pushed.{has_last, pushed_joined, pushe
 pub use Rattle.blaze_entries.proofs.Lists.UnitLaws.{unit_laws}
 pub use Rattle.blaze_entries.proofs.Paints.Painted.{canonical_as, glue-nil}
 pub use Rattle.blaze_entries.proofs.Paints.Splices.{below_more, after_keeps, at-after_over, by_after, above_after, canonical_after, canonical_glue, at_glue, below_glue, after_skips}
+pub use Rattle.blaze_entries.proofs.Plain.{chosen}
 pub use Rattle.blaze_entries.proofs.Steps.{goes_last, goes_first}
 pub use Rattle.blaze_entries.specs.Canonical.{IsCanonical, IsRangeMap, IsApart, IsOnePerRun, AreKeys, IsDisjoint, IsAscending}
 pub use Rattle.blaze_entries.specs.Chosen.{left_alone, left_with_right, IsChosen, right_first}

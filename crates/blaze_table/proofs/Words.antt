@@ -53,6 +53,7 @@ pub use Rattle.blaze_entries.proofs.Moves.{with_entry-first, length-with_end_val
 pub use Rattle.blaze_entries.proofs.Paints.Kept.{in_before, in_from, later_in, first_in, by_first, over_in, in_after, same_in}
 pub use Rattle.blaze_entries.proofs.Paints.Painted.{entries_themselves, canonical_as, above_as, content_as, before_past, after_past, length_as, is_painted, painted_short, paint_itself, painted_nowhere}
 pub use Rattle.blaze_entries.proofs.Paints.Splices.{by_before, after_skips, by_after, canonical_glue, canonical_before, canonical_after, at_glue, above_after, below_before, at-before_under, at-before_over, at-after_over, below_more, before_cuts, before_ends, after_cuts, after_keeps, before_keeps, by_join, below_glue}
+pub use Rattle.blaze_entries.proofs.Plain.{cut_inside, cut_outside}
 pub use Rattle.blaze_entries.proofs.Scans.{length-below}
 pub use Rattle.blaze_entries.proofs.Underway.{overlap_none, IsWalkUnderway, begins, fits, has_room, goes_on, stops, ends, cloned_above, refused_above, overlap_over}
 pub use Rattle.blaze_entries.specs.Canonical.{IsCanonical, AreKeys, IsApart, IsRunStart, IsRunEnd, HasStart, HasEnd, IsClear, IsDisjoint, IsAscending, IsOnePerRun, IsRangeMap}

@@ -26,10 +26,14 @@ pub record AreKept {V : Type 0} (eq : V → V → Bool) (content : ℤ → Optio
   pub starts : AreStartsKept eq content old new
   pub whole : (e : Entry V) → Contains old e → IsRunStart eq content e.lo → IsRunEnd eq content e.hi → Contains new e
 
--- the effect of a fill with an entry on a range map: the content is the filled one, and the old values remain
+-- The effect of a fill with an entry on a range map. The content is the filled one: each key of the entry that had no value has
+-- that of the entry, and each other key its old one. The old values remain.
 pub record IsFilled {V : Type 0} (eq : V → V → Bool) (low high : ℤ) (p : Entry V) (old new : List (Entry V)) : Type 0 where
   pub range_map : IsRangeMap eq low high new
   pub content : (k : ℤ) → SameOption eq (at new k) (filled_content p.lo p.hi p.value (at old) k)
+  pub inside : (k : ℤ) → p.lo ≤ℤ k → k ≤ℤ p.hi → at old k ≡ None → SameOption eq (at new k) (Some p.value)
+  pub held : (k : ℤ) → IsSome (at old k) → SameOption eq (at new k) (at old k)
+  pub outside : (k : ℤ) → (k <ℤ p.lo) ⊎ (p.hi <ℤ k) → SameOption eq (at new k) (at old k)
   pub kept : AreKept eq (filled_content p.lo p.hi p.value (at old)) old new
 
 -- each key from a to b has a value

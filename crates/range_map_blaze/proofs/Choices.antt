@@ -1,5 +1,5 @@
 -- What is chosen from two lists, carried along lists that are alike.
-use Rattle.range_map_blaze.proofs.Words.{◌≡◌, ℤ, Bool, List, Option, Some, None, is_some, refl, subst, ◌∙◌, option_xor, IsEquivalence, same_trans, same_along, Entry, at, SameOption, SameEntries, right_first, left_alone, IsChosen, value_if_none, IsComplement, IsAlikeOff, content_as, back}
+use Rattle.range_map_blaze.proofs.Words.{◌≡◌, ℤ, Bool, List, Option, Some, None, is_some, refl, subst, ◌∙◌, option_xor, IsEquivalence, same_trans, same_along, Entry, at, SameOption, SameEntries, right_first, left_alone, IsChosen, value_if_none, IsComplement, IsAlikeOff, content_as, back, chosen}
 use Rattle.range_map_blaze.proofs.Streams.{range_map_as}
 
 -- the choice looks at the right one's presence alone
@@ -25,25 +25,16 @@ complement_of eq low high w ranges entries new same c = record {
 module _ {V : Type 0} (eq : V → V → Bool) (laws : IsEquivalence eq) (low high : ℤ) where
   -- a list that is like a chosen one
   pub chosen_as : {A B : Type 0} (choose : Option A → Option B → Option V) (left : List (Entry A)) (right : List (Entry B)) (es fs : List (Entry V)) → IsChosen eq low high choose left right es → SameEntries eq es fs → IsChosen eq low high choose left right fs
-  chosen_as choose left right es fs c s = record {
-    range_map = range_map_as eq laws low high es fs s c.range_map;
-    content = λ k. same_trans eq laws (at fs k) (at es k) (choose (at left k) (at right k)) (back eq laws es fs (content_as eq laws es fs s) k) (c.content k);
-  }
+  chosen_as choose left right es fs c s = chosen (range_map_as eq laws low high es fs s c.range_map) (λ k. same_trans eq laws (at fs k) (at es k) (choose (at left k) (at right k)) (back eq laws es fs (content_as eq laws es fs s) k) (c.content k))
 
   -- the ranges of a map's keys serve as the map
   pub chosen_without : {A B : Type 0} (left : List (Entry V)) (ranges : List (Entry A)) (right : List (Entry B)) (new : List (Entry V)) → ((k : ℤ) → is_some (at ranges k) ≡ is_some (at right k)) → IsChosen eq low high left_alone left ranges new → IsChosen eq low high left_alone left right new
-  chosen_without left ranges right new same c = record {
-    range_map = c.range_map;
-    content = λ k. subst (SameOption eq (at new k)) (without_keys (at left k) (at ranges k) (at right k) (same k)) (c.content k);
-  }
+  chosen_without left ranges right new same c = chosen c.range_map (λ k. subst (SameOption eq (at new k)) (without_keys (at left k) (at ranges k) (at right k) (same k)) (c.content k))
 
   -- what is chosen off the keys of what some of the ranges have left of a map
   pub chosen_on : {A B : Type 0} (left rest : List (Entry V)) (ranges : List (Entry A)) (right : List (Entry B)) (new : List (Entry V)) → ((k : ℤ) → is_some (at ranges k) ≡ is_some (at right k)) → IsAlikeOff eq ranges left rest → IsChosen eq low high left_alone rest right new → IsChosen eq low high left_alone left right new
-  chosen_on left rest ranges right new same off c = record {
-    range_map = c.range_map;
-    content = λ k. same_trans eq laws (at new k) (left_alone (at rest k) (at right k)) (left_alone (at left k) (at right k)) (c.content k)
-        (same_along eq (without_keys (at rest k) (at ranges k) (at right k) (same k)) (without_keys (at left k) (at ranges k) (at right k) (same k)) (off k));
-  }
+  chosen_on left rest ranges right new same off c = chosen c.range_map (λ k. same_trans eq laws (at new k) (left_alone (at rest k) (at right k)) (left_alone (at left k) (at right k)) (c.content k)
+      (same_along eq (without_keys (at rest k) (at ranges k) (at right k) (same k)) (without_keys (at left k) (at ranges k) (at right k) (same k)) (off k)))
 
   -- cut out of a map that is like the left one
   off_like : {A : Type 0} (x y : Option V) (z : Option A) → SameOption eq x y → SameOption eq (left_alone y z) (left_alone x z)
@@ -55,10 +46,7 @@ module _ {V : Type 0} (eq : V → V → Bool) (laws : IsEquivalence eq) (low hig
   off_like (Some x) (Some y) (Some z) s = tt
 
   pub chosen_off : {A : Type 0} (left old : List (Entry V)) (right : List (Entry A)) (new : List (Entry V)) → SameEntries eq left old → IsChosen eq low high left_alone old right new → IsChosen eq low high left_alone left right new
-  chosen_off left old right new s c = record {
-    range_map = c.range_map;
-    content = λ k. same_trans eq laws (at new k) (left_alone (at old k) (at right k)) _ (c.content k) (off_like (at left k) (at old k) (at right k) (content_as eq laws left old s k));
-  }
+  chosen_off left old right new s c = chosen c.range_map (λ k. same_trans eq laws (at new k) (left_alone (at old k) (at right k)) _ (c.content k) (off_like (at left k) (at old k) (at right k) (content_as eq laws left old s k)))
 
   -- painted over a map that is like the left one
   over_like : (x y z : Option V) → SameOption eq x y → SameOption eq (right_first y z) (right_first x z)
@@ -70,10 +58,7 @@ module _ {V : Type 0} (eq : V → V → Bool) (laws : IsEquivalence eq) (low hig
   over_like (Some x) (Some y) (Some z) s = laws.refl z
 
   pub chosen_over : (left old right new : List (Entry V)) → SameEntries eq left old → IsChosen eq low high right_first old right new → IsChosen eq low high right_first left right new
-  chosen_over left old right new s c = record {
-    range_map = c.range_map;
-    content = λ k. same_trans eq laws (at new k) (right_first (at old k) (at right k)) _ (c.content k) (over_like (at left k) (at old k) (at right k) (content_as eq laws left old s k));
-  }
+  chosen_over left old right new s c = chosen c.range_map (λ k. same_trans eq laws (at new k) (right_first (at old k) (at right k)) _ (c.content k) (over_like (at left k) (at old k) (at right k) (content_as eq laws left old s k)))
 
   -- painted into a map that is like the right one
   right_like : (x y z : Option V) → SameOption eq y z → SameOption eq (right_first x z) (right_first x y)
@@ -84,10 +69,7 @@ module _ {V : Type 0} (eq : V → V → Bool) (laws : IsEquivalence eq) (low hig
   right_like x (Some y) (Some z) s = laws.symm z y ∙ s
 
   pub chosen_into : (left right old new : List (Entry V)) → SameEntries eq right old → IsChosen eq low high right_first left old new → IsChosen eq low high right_first left right new
-  chosen_into left right old new s c = record {
-    range_map = c.range_map;
-    content = λ k. same_trans eq laws (at new k) (right_first (at left k) (at old k)) _ (c.content k) (right_like (at left k) (at right k) (at old k) (content_as eq laws right old s k));
-  }
+  chosen_into left right old new s c = chosen c.range_map (λ k. same_trans eq laws (at new k) (right_first (at left k) (at old k)) _ (c.content k) (right_like (at left k) (at right k) (at old k) (content_as eq laws right old s k)))
 
   -- what each of two maps has off the other's keys, the one beside the other
   either_alone : (x y l r n : Option V) → SameOption eq l (left_alone x y) → SameOption eq r (left_alone y x) → SameOption eq n (right_first l r) → SameOption eq n (option_xor x y)
@@ -107,10 +89,7 @@ module _ {V : Type 0} (eq : V → V → Bool) (laws : IsEquivalence eq) (low hig
   either_alone (Some x) (Some y) None (Some r) n s t u = absurd t
 
   pub both_alone : (left right left_off right_off new : List (Entry V)) → IsChosen eq low high left_alone left right left_off → IsChosen eq low high left_alone right left right_off → IsChosen eq low high right_first left_off right_off new → IsChosen eq low high option_xor left right new
-  both_alone left right left_off right_off new l r u = record {
-    range_map = u.range_map;
-    content = λ k. either_alone (at left k) (at right k) (at left_off k) (at right_off k) (at new k) (l.content k) (r.content k) (u.content k);
-  }
+  both_alone left right left_off right_off new l r u = chosen u.range_map (λ k. either_alone (at left k) (at right k) (at left_off k) (at right_off k) (at new k) (l.content k) (r.content k) (u.content k))
 
   -- of the values on the keys that exactly one of two maps has, either may be named first
   xor_turned : (x y : Option V) → option_xor x y ≡ option_xor y x
@@ -120,7 +99,4 @@ module _ {V : Type 0} (eq : V → V → Bool) (laws : IsEquivalence eq) (low hig
   xor_turned (Some x) (Some y) = refl
 
   pub either_first : (left right new : List (Entry V)) → IsChosen eq low high option_xor right left new → IsChosen eq low high option_xor left right new
-  either_first left right new c = record {
-    range_map = c.range_map;
-    content = λ k. subst (SameOption eq (at new k)) (xor_turned (at right k) (at left k)) (c.content k);
-  }
+  either_first left right new c = chosen c.range_map (λ k. subst (SameOption eq (at new k)) (xor_turned (at right k) (at left k)) (c.content k))

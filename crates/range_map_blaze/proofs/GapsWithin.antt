@@ -1,5 +1,5 @@
 -- The gaps of entries within a range, as a walk meets them, are the keys of the range that no entry has.
-use Rattle.range_map_blaze.proofs.Words.{◌≡◌, ℤ, pos, ◌+ℤ◌, ◌-ℤ◌, ◌≤ℤ◌, ◌<ℤ◌, Bool, cond, List, [], ◌∷◌, ◌++◌, Option, Some, None, refl, ◌∙◌, sym, ap, subst, arith, IsEquivalence, int_max, int_min, int_lt, ints, by_lt_z, lt_true, lt_false, le_true, le_false, up_to, same_itself, IsCanonical, AreKeys, IsRangeMap, left_alone, left_with_right, IsChosen, value_if_none, ending_from, overlapping, Entry, entry, at, SameOption, unit_eq, before, after, before_none, IsAbove, above_rest, at_in, at_under, at_over, by_place, canonical, one_per_run, after_all, by_before, canonical_after, canonical_before, above_after, unit_laws, gap_before, gaps, no_gap, gaps_complement, one_range, within, gaps_within}
+use Rattle.range_map_blaze.proofs.Words.{◌≡◌, ℤ, pos, ◌+ℤ◌, ◌-ℤ◌, ◌≤ℤ◌, ◌<ℤ◌, Bool, cond, List, [], ◌∷◌, ◌++◌, Option, Some, None, refl, ◌∙◌, sym, ap, subst, arith, IsEquivalence, int_max, int_min, int_lt, ints, by_lt_z, lt_true, lt_false, le_true, le_false, up_to, same_itself, IsCanonical, AreKeys, IsRangeMap, left_alone, left_with_right, IsChosen, value_if_none, ending_from, overlapping, Entry, entry, at, SameOption, unit_eq, before, after, before_none, IsAbove, above_rest, at_in, at_under, at_over, by_place, canonical, one_per_run, after_all, by_before, canonical_after, canonical_before, above_after, unit_laws, gap_before, gaps, no_gap, gaps_complement, one_range, within, gaps_within, chosen}
 use Rattle.range_map_blaze.proofs.JoinedKeys.{below_all, above_all}
 use Rattle.range_map_blaze.proofs.Paints.Following.{IsOnward, EndsFrom, whole_first, within_next, within_over, content_within}
 
@@ -123,16 +123,13 @@ module _ {V : Type 0} (low high l h : ℤ) (es : List (Entry V)) where
         }) in
         let new = gaps l h (within l h es) in
         let one : Entry (Unit {0}) = entry l h tt in
-        rw is (record {
-          range_map = record { runs = made.range_map.runs; keys = keys_wider low high l h new a b made.range_map.keys };
-          content = λ k. by_place one k
-              (λ i j.
-              let held = at_in one [] k i j in
-              let at_es = content_within eq laws low high l h es k c d ∙ ap (left_with_right (at es k)) held in
-              subst (SameOption unit_eq (at new k)) (ap (value_if_none tt) at_es ∙ alone_is (at es k) ∙ ap (λ x. left_alone x (at es k)) (sym held)) (made.content k i j))
-              (λ i. off new k (below_all l h new k made.range_map.keys i) (at_under one [] k i))
-              (λ i. off new k (above_all l h new k made.range_map.keys i) (at_over one [] k i));
-        })
+        rw is (chosen (record { runs = made.range_map.runs; keys = keys_wider low high l h new a b made.range_map.keys }) (λ k. by_place one k
+        (λ i j.
+        let held = at_in one [] k i j in
+        let at_es = content_within eq laws low high l h es k c d ∙ ap (left_with_right (at es k)) held in
+        subst (SameOption unit_eq (at new k)) (ap (value_if_none tt) at_es ∙ alone_is (at es k) ∙ ap (λ x. left_alone x (at es k)) (sym held)) (made.content k i j))
+        (λ i. off new k (below_all l h new k made.range_map.keys i) (at_under one [] k i))
+        (λ i. off new k (above_all l h new k made.range_map.keys i) (at_over one [] k i))))
 
     -- the gaps among the entries that share a key with the range
     pub gaps_made : l ≤ℤ h → low ≤ℤ l → h ≤ℤ high → (os : List (Entry V)) → os ≡ overlapping l h es → IsChosen unit_eq low high left_alone (one_range l h) es (gaps_within l h os)

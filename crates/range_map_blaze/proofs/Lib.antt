@@ -18,4 +18,6 @@ pub mod Edits
 pub mod TryLaws
 pub mod SharedKeys
 pub mod TakenBack
+pub mod Told
+pub mod Facts
 mod Words

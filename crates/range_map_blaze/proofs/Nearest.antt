@@ -41,7 +41,7 @@ module _ {V : Type 0} (eq : V → V → Bool) (k : ℤ) where
 
   -- ---- the last that starts at the key or below
 
-  by_end : {P : Type 0} (e : Entry V) → (e.hi <ℤ k → P) → (k ≤ℤ e.hi → P) → P
+  pub by_end : {P : Type 0} (e : Entry V) → (e.hi <ℤ k → P) → (k ≤ℤ e.hi → P) → P
   by_end e over to = by_bool (int_le k e.hi) (λ p. to (grind (arith, ints))) (λ p. over (grind (arith, ints)))
 
   module _ (b high : ℤ) (es : List (Entry V)) (c : IsCanonical eq es) (a : StartsAscend b high es) where

@@ -1,5 +1,5 @@
 -- Keys that are taken out of a list, and painted back.
-use Rattle.range_map_blaze.proofs.Words.{◌↔◌, IsTrue, find, int_le, int_lt, option_or, IsEquivalence, ◌≡◌, ℤ, ◌≤ℤ◌, ◌<ℤ◌, Bool, true, false, cond, List, [], ◌∷◌, Option, Some, None, refl, ◌∙◌, sym, subst, arith, ints, by_lt_z, lt_fails, lt_holds, same_along, same_back, same_itself, same_or, same_trans, IsClearFrom, IsCanonical, IsRangeMap, left_with_right, right_first, IsChosen, cut_range_at, Entry, at, holds, SameOption, at_in, at_over, holds_ends, canonical, one_per_run, unique, at_first, TakingIsUndone, one_range, AreKeysTaken}
+use Rattle.range_map_blaze.proofs.Words.{◌↔◌, IsTrue, find, int_le, int_lt, option_or, IsEquivalence, ◌≡◌, ℤ, ◌≤ℤ◌, ◌<ℤ◌, Bool, true, false, cond, List, [], ◌∷◌, Option, Some, None, refl, ◌∙◌, sym, subst, arith, ints, by_lt_z, lt_fails, lt_holds, same_along, same_back, same_itself, same_or, same_trans, IsClearFrom, IsCanonical, IsRangeMap, left_with_right, right_first, IsChosen, cut_range_at, Entry, at, holds, SameOption, at_in, at_over, holds_ends, canonical, one_per_run, unique, at_first, TakingIsUndone, one_range, AreKeysTaken, chosen, cut_inside, cut_outside, is_none_by, IsRangeCut, at_under, inl, inr, ◌⊎◌}
 use Rattle.range_map_blaze.proofs.Nearest.{ends_above, ends_below}
 use Rattle.range_map_blaze.proofs.Paints.PaintedOver.{painted_over}
 use Rattle.range_map_blaze.proofs.Paints.Paintings.{in_turn}
@@ -60,12 +60,27 @@ module _ {V : Type 0} (eq : V → V → Bool) (laws : IsEquivalence eq) (low hig
 
   pub nothing_taken : (es : List (Entry V)) → IsRangeMap eq low high es → IsClearFrom (at es) l h → AreKeysTaken eq low high l h es es []
   nothing_taken es r free = record {
-    left_is = record { range_map = r; content = λ k. kept (holds one k) (at es k) (λ q. let is = holds_ends one k q in free k is.0 is.1); kept = λ e i u. i };
-    taken_is = record {
-      range_map = record { runs = one_per_run eq laws [] tt; keys = tt };
-      content = λ k. none_of (holds one k) (at es k) (λ q. let is = holds_ends one k q in free k is.0 is.1);
-    };
+    left_is = record { range_map = r; content = content; inside = cut_inside eq es es l h content; outside = cut_outside eq es es l h content; kept = λ e i u. i };
+    taken_is = chosen (record { runs = one_per_run eq laws [] tt; keys = tt }) (λ k. none_of (holds one k) (at es k) (λ q. let is = holds_ends one k q in free k is.0 is.1));
+    inside = λ k from to. subst (λ o. SameOption eq None o) (sym (free k from to)) tt;
+    outside = λ k u. refl;
   }
+    where
+      content : (k : ℤ) → SameOption eq (at es k) (cut_range_at l h (at es) k)
+      content k = kept (holds one k) (at es k) (λ q. let is = holds_ends one k q in free k is.0 is.1)
+
+  -- a cut, and the keys that were cut, chosen from the old map
+  pub keys_taken : (old left taken : List (Entry V)) → IsRangeCut eq low high l h old left → IsChosen eq low high left_with_right old (one_range l h) taken → AreKeysTaken eq low high l h old left taken
+  keys_taken old left taken cut is = record {
+    left_is = cut;
+    taken_is = is;
+    inside = λ k from to. is.right_some k tt (at_in one [] k from to);
+    outside = outside;
+  }
+    where
+      outside : (k : ℤ) → (k <ℤ l) ⊎ (h <ℤ k) → at taken k ≡ None
+      outside k (inl u) = is_none_by eq (at taken k) (is.right_none k (at_under one [] k u))
+      outside k (inr u) = is_none_by eq (at taken k) (is.right_none k (at_over one [] k u))
 
   -- ---- painted back
 

@@ -60,6 +60,7 @@ pub use Rattle.blaze_streams.specs.Joins.{is_joined}
 pub use Rattle.blaze_streams.specs.Ranges.{shown_range}
 pub use Rattle.blaze_entries.proofs.Canonical.Clones.{IsCopied}
 pub use Rattle.blaze_entries.proofs.Canonical.Counted.{before_none, are_keys_as, are_keys_before, are_keys_after, some_keys, one_fits, one_more, keys_among, are_keys_glue}
+pub use Rattle.blaze_entries.proofs.Canonical.EntryRuns.{entry_place, entry_run, member_run, walked_run}
 pub use Rattle.blaze_entries.proofs.Canonical.Fewest.{fewest}
 pub use Rattle.blaze_entries.proofs.Canonical.ListLaws.{canonical_is_unique, lengths_are_mapped}
 pub use Rattle.blaze_entries.proofs.Canonical.Lookup.{at_in, IsAbove, above_rest, at_under, at_over, by_place, entry_in, entry_under, entry_over, IsAbove-from_apart, above_by, holds_ends, at_append, above_low, at_before, holds_under, holds_over, holds_in}
@@ -76,6 +77,8 @@ pub use Rattle.blaze_entries.proofs.Lists.Ending.{ending_takes, ending_skips, en
 pub use Rattle.blaze_table.proofs.Neighbours.NextEntries.{holding_none, holding_some, holding_not, below_none_is, below_here}
 pub use Rattle.blaze_table.proofs.Paints.Inside.{inside_at}
 pub use Rattle.blaze_entries.proofs.Paints.Kept.{over_in}
+pub use Rattle.blaze_entries.proofs.Plain.{chosen, cut_inside, cut_outside, is_none_by, painted_inside, painted_outside, overlap_clear, count_clear}
+pub use Rattle.blaze_table.proofs.Fills.Filled.{fill_inside, fill_held, fill_outside}
 pub use Rattle.blaze_entries.proofs.Paints.Painted.{content_as, length_as, is_painted, paint_itself, canonical_as}
 pub use Rattle.blaze_entries.proofs.Paints.Splices.{at-after_over, by_before, canonical_after, canonical_before, above_after, after_skips, after_keeps, before_keeps, before_cuts, by_after, at-before_over, at-before_under, at_glue, below_glue, below_more, canonical_glue, after_cuts}
 pub use Rattle.blaze_table.proofs.Pairs.Lasts.{painted_one}
@@ -97,13 +100,14 @@ pub use Rattle.blaze_entries.specs.Entries.{Entry, at, entry, SameOption, holds,
 pub use Rattle.blaze_entries.specs.Equality.{same_entries}
 pub use Rattle.blaze_table.specs.Filled.{filled_content, IsFilled}
 pub use Rattle.blaze_table.specs.Gap.{IsClearFrom, IsGap}
-pub use Rattle.blaze_entries.specs.Painted.{last_at, painted_in_order, IsInside, IsPainted, painted_content, LeavesAlone}
+pub use Rattle.blaze_entries.specs.Painted.{last_at, painted_in_order, IsInside, IsPainted, painted_content, IsApartBelow, IsApartFrom, LeavesAlone}
 pub use Rattle.blaze_entries.specs.Pairs.{pair_list, pairs_from, value_at}
+pub use Rattle.blaze_entries.specs.Run.{IsRun}
 pub use Rattle.blaze_entries.specs.RangeSets.{unit_eq, IsRangeSet, shown_bare_range, shown_bare_ranges}
 pub use Rattle.blaze_entries.specs.Splice.{after, before, paint, glue, IsBelow}
 pub use Rattle.blaze_table.specs.Work.{IsCountedPaint, IsCounted}
 pub use Rattle.range_map_blaze.specs.CutOut.{IsAlikeOff}
-pub use Rattle.range_map_blaze.specs.Edits.{AreEdits, AreEndsOf, AreEntriesAsked, ArePiecesAsked, IsPieceAsked, AreAside, AreEdited, IsEdited, IsPartEdited}
+pub use Rattle.range_map_blaze.specs.Edits.{AreEdits, AreEndsOf, AreEntriesAsked, ArePiecesAsked, IsPieceAsked, AreEdited, IsEdited, IsPartEdited}
 pub use Rattle.range_map_blaze.specs.EntriesWithin.{IsWithin}
 pub use Rattle.range_map_blaze.specs.Extended.{AreInside, AreLeftAlone, ArePaintedInTurn, IsExtended, IsPairPainted, shown_point}
 pub use Rattle.range_map_blaze.specs.FilledFrom.{IsFilledFrom}
@@ -123,5 +127,5 @@ pub use Rattle.range_map_blaze.specs.TryLaws.{ReturnsInOk, TryIsPlain}
 pub use Rattle.range_map_blaze.specs.Underway.{are_one_pair, joined_pair, IsUnderway}
 pub use Rattle.range_map_blaze.specs.Union.{IsUnion}
 pub use Rattle.range_map_blaze.specs.UpdateLaws.{changed, AreGivenBy, UpdatingIsByKeys, PartUpdatingIsByKeys, InsertingIsUpdating, InsertingAbsentIsUpdating, RemovingIsUpdating}
-pub use Rattle.range_map_blaze.specs.Updated.{answer_or, updated, IsCallableAtPieces, IsAside, IsPartUpdated, IsUpdated}
+pub use Rattle.range_map_blaze.specs.Updated.{answer_or, updated, changes, AreAnswersAtPieces, AreApartFrom, IsCallableAtPieces, IsPartUpdated, IsUpdated, KeepsValue, KeepsValues}
 pub use Rattle.range_map_blaze.specs.Within.{within, gaps_within, cut_each, cut_to, gaps_left, AreKeysFrom, IsUpTo, IsAcross, IsGapWalk}

@@ -3,23 +3,24 @@ use Rattle.std.specs.declared.alloc.AllocError.{AllocError}
 use Rattle.std.specs.Fn.{Mut}
 use Rattle.std.specs.List.{Contains}
 use Rattle.std.specs.Option.{option_eq}
-use Rattle.std.specs.Prelude.{◌≡◌, ℤ, pos, ◌+ℤ◌, if◌then◌else◌, Bool, List, [], ◌∷◌, ◌++◌, Option, Result, Ok}
+use Rattle.std.specs.Prelude.{◌≡◌, ℤ, pos, ◌+ℤ◌, if◌then◌else◌, Bool, List, [], ◌∷◌, ◌++◌, Option, Some, Result, Ok}
 use Rattle.blaze_streams.specs.Answers.{AnswersAtValue}
 use Rattle.blaze_streams.specs.Fills.{none_before, IsFilledWithNone}
 use Rattle.blaze_entries.specs.Canonical.{IsRangeMap, HasEnd}
 use Rattle.blaze_entries.specs.Entries.{Entry, entry, at, holds, SameEntries, SameOption}
 use Rattle.blaze_entries.specs.Splice.{glue}
-use Rattle.range_map_blaze.specs.Updated.{updated, AreAnswersAtPieces, AreOthersKept, IsAside}
+use Rattle.blaze_entries.specs.Painted.{IsApartFrom}
+use Rattle.range_map_blaze.specs.Updated.{updated, changes, AreAnswersAtPieces, AreApartFrom}
 
 -- the result at a piece appended to a list of edits, joined with the last where the two touch and are equal; a result that equals the old
 -- value of the piece is left out
 abbrev pub with_edit : {V : Type 0} → (V → V → Bool) → List (Entry (Option V)) → Entry (Option V) → Option V → List (Entry (Option V))
 with_edit eq edits piece answer = if option_eq eq answer piece.value then edits else glue (option_eq eq) edits (entry piece.lo piece.hi answer ∷ [])
 
--- each edit ends where one of the results does
+-- each edit ends where one of the changes does
 abbrev pub AreEndsOf : {V : Type 0} → List (Entry (Option V)) → List (Entry (Option V)) → Type 0
-AreEndsOf answers [] = Unit {0}
-AreEndsOf answers (e ∷ edits) = HasEnd answers e.hi × AreEndsOf answers edits
+AreEndsOf changed [] = Unit {0}
+AreEndsOf changed (e ∷ edits) = HasEnd changed e.hi × AreEndsOf changed edits
 
 -- `shows` gives the list's value that the arguments of a call stand for
 module _ {F A V : Type 0} (shows : A → Option V) (g : Mut F A (Result (Option V) AllocError)) (eq : V → V → Bool) where
@@ -43,32 +44,28 @@ module _ {F A V : Type 0} (shows : A → Option V) (g : Mut F A (Result (Option 
     pub asked : ArePiecesAsked pieces f f' edits new
 
   -- A list of edits that bring the results of a function at the pieces of the keys from l to h into a map. It is empty if every
-  -- result equals the old value, and each edit ends where a piece does.
+  -- result equals the old value. Each edit ends where a changed piece does. The edits leave alone what the changed pieces do.
   pub record AreEdits (l h : ℤ) (f : F) (old : List (Entry V)) (edits : List (Entry (Option V))) : Type 0 where
     pub answers : List (Entry (Option V))
     pub asked : AreAnswersAtPieces shows g eq l h f old answers
     pub range_map : IsRangeMap (option_eq eq) l h edits
     pub content : (k : ℤ) → SameOption eq (updated edits (at old) k) (updated answers (at old) k)
-    pub ends : AreEndsOf answers edits
+    pub ends : AreEndsOf (changes eq asked.pieces answers) edits
+    pub apart : (e : Entry V) → Contains old e → AreApartFrom eq (changes eq asked.pieces answers) e → AreApartFrom eq edits e
     pub same : SameEntries (option_eq eq) answers asked.pieces → edits ≡ []
-
--- each of the edits is aside of the entry
-abbrev pub AreAside : {V : Type 0} → List (Entry (Option V)) → Entry V → Type 0
-AreAside [] e = Unit {0}
-AreAside (d ∷ edits) e = IsAside d.lo d.hi e × AreAside edits e
 
 -- one edit: its keys have its value, or none, and the others their old ones
 pub record IsEdited {V : Type 0} (eq : V → V → Bool) (low high : ℤ) (e : Entry (Option V)) (old new : List (Entry V)) : Type 0 where
   pub range_map : IsRangeMap eq low high new
   pub content : (k : ℤ) → SameOption eq (at new k) (if holds e k then e.value else at old k)
-  pub kept : AreOthersKept e.lo e.hi old new
+  pub kept : (d : Entry V) → Contains old d → IsApartFrom (option_eq eq) e (entry d.lo d.hi (Some d.value)) → Contains new d
 
 -- the edits, in order
 pub record AreEdited {V : Type 0} (eq : V → V → Bool) (low high : ℤ) (edits : List (Entry (Option V))) (old new : List (Entry V)) : Type 0 where
   pub range_map : IsRangeMap eq low high new
   pub content : (k : ℤ) → SameOption eq (at new k) (updated edits (at old) k)
   pub none : edits ≡ [] → new ≡ old
-  pub kept : (e : Entry V) → Contains old e → AreAside edits e → Contains new e
+  pub kept : (e : Entry V) → Contains old e → AreApartFrom eq edits e → Contains new e
 
 -- a first part of the edits, perhaps none of them
 pub record IsPartEdited {V : Type 0} (eq : V → V → Bool) (low high : ℤ) (edits : List (Entry (Option V))) (old new : List (Entry V)) : Type 0 where

@@ -48,3 +48,4 @@ pub mod UpdateLaws
 pub mod TryLaws
 pub mod Relations
 pub mod KeysTaken
+pub mod Words

@@ -1,11 +1,13 @@
--- The laws of pairs painted one by one, of filling one map from another, of keys taken and put back, of joins of maps, and of
+-- The laws of a list's entries, of pairs painted one by one, of filling one map from another, of keys taken and put back, of joins of maps, and of
 -- maps with the results of a closure at their values.
-use Rattle.std.specs.Prelude.{◌≡◌, ℤ, ◌≤ℤ◌, Bool, List, Option, IsSome}
+use Rattle.std.specs.Prelude.{◌≡◌, ℤ, ◌≤ℤ◌, Bool, List, ◌∷◌, ◌++◌, Option, IsSome}
+use Rattle.std.specs.List.{Contains}
 use Rattle.std.specs.Option.{is_some}
 use Rattle.std.specs.Fn.{Mut}
 use Rattle.blaze_entries.specs.Entries.{Entry, at, SameEntries}
 use Rattle.blaze_entries.specs.Canonical.{IsRangeMap}
 use Rattle.blaze_entries.specs.Count.{mapped_keys}
+use Rattle.blaze_entries.specs.Run.{IsRun}
 use Rattle.blaze_streams.specs.declared.segmenting.joins.JoinKind.TheVariants.{Inner, Left, Full}
 use Rattle.blaze_streams.specs.Answers.{IsTransformed}
 use Rattle.blaze_streams.specs.JoinAnswers.{IsJoined}
@@ -13,6 +15,14 @@ use Rattle.range_map_blaze.specs.Extended.{ArePaintedInTurn, IsExtended}
 use Rattle.range_map_blaze.specs.FilledFrom.{IsFilledFrom}
 use Rattle.range_map_blaze.specs.KeysTaken.{AreKeysTaken}
 use Rattle.range_map_blaze.specs.Union.{IsUnion}
+
+-- each entry of a range map's list is a run of its content
+abbrev pub EntriesAreRuns : {V : Type 0} → (V → V → Bool) → ℤ → ℤ → Type 0
+EntriesAreRuns {V} eq low high = (es : List (Entry V)) (e : Entry V) → IsRangeMap eq low high es → Contains es e → IsRun eq (at es) e.lo e.hi e.value
+
+-- so is the entry that a walk over the list comes to, behind those that it has passed
+abbrev pub WalkedEntriesAreRuns : {V : Type 0} → (V → V → Bool) → ℤ → ℤ → Type 0
+WalkedEntriesAreRuns {V} eq low high = (es done rest : List (Entry V)) (e : Entry V) → IsRangeMap eq low high es → es ≡ done ++ e ∷ rest → IsRun eq (at es) e.lo e.hi e.value
 
 -- pairs painted one by one give what painting them in order gives
 abbrev pub PaintingInTurnExtends : {V : Type 0} → (V → V → Bool) → ℤ → ℤ → Type 0

@@ -3,11 +3,12 @@ use Rattle.std.specs.declared.alloc.AllocError.{AllocError}
 use Rattle.std.specs.Fn.{Mut}
 use Rattle.std.specs.List.{Contains}
 use Rattle.std.specs.Option.{option_eq}
-use Rattle.std.specs.Prelude.{◌≡◌, ◌⊎◌, ℤ, pos, ◌+ℤ◌, ◌<ℤ◌, int_le, if◌then◌else◌, Bool, List, map, Option, Some, None, Result, Ok}
-use Rattle.blaze_streams.specs.Answers.{values, entries_with_results, AnswersInTurn, IsCallableAtEachValue}
+use Rattle.std.specs.Prelude.{◌≡◌, ◌⊎◌, ℤ, ◌≤ℤ◌, ◌<ℤ◌, int_le, if◌then◌else◌, Bool, true, List, [], ◌∷◌, map, Option, Some, None, Result, Ok, Err}
+use Rattle.blaze_streams.specs.Answers.{values, entries_with_results, AnswersAtValue, AnswersInTurn, IsCallableAtEachValue}
 use Rattle.blaze_streams.specs.Fills.{IsFilledWithNone}
 use Rattle.blaze_entries.specs.Canonical.{IsRangeMap, HasEnd}
-use Rattle.blaze_entries.specs.Entries.{Entry, at, SameEntries, SameOption}
+use Rattle.blaze_entries.specs.Entries.{Entry, entry, at, SameEntries, SameOption}
+use Rattle.blaze_entries.specs.Painted.{IsApartFrom}
 
 -- the value of a key after a result, if there is one, and otherwise its old value
 abbrev pub answer_or : {V : Type 0} → Option (Option V) → Option V → Option V
@@ -22,16 +23,32 @@ updated answers content k = answer_or (at answers k) (content k)
 abbrev pub updated_up_to : {V : Type 0} → ℤ → List (Entry (Option V)) → (ℤ → Option V) → ℤ → Option V
 updated_up_to b answers content k = if int_le k b then updated answers content k else content k
 
--- the keys from l to h are not in the entry, and not right beside it
-abbrev pub IsAside : {V : Type 0} → ℤ → ℤ → Entry V → Type 0
-IsAside l h e = ((h +ℤ pos 1) <ℤ e.lo) ⊎ ((e.hi +ℤ pos 1) <ℤ l)
+-- the results that differ from the old values of their pieces
+abbrev pub changes : {V : Type 0} → (V → V → Bool) → List (Entry (Option V)) → List (Entry (Option V)) → List (Entry (Option V))
+changes eq [] answers = []
+changes eq (p ∷ pieces) [] = []
+changes eq (p ∷ pieces) (a ∷ answers) = if option_eq eq a.value p.value then changes eq pieces answers else a ∷ changes eq pieces answers
 
--- each entry that the keys from l to h are aside of remains, with its stored value
-abbrev pub AreOthersKept : {V : Type 0} → ℤ → ℤ → List (Entry V) → List (Entry V) → Type 0
-AreOthersKept {V} l h old new = (e : Entry V) → Contains old e → IsAside l h e → Contains new e
+-- no key of the results is in the entry, and it is not one run with any of them
+abbrev pub AreApartFrom : {V : Type 0} → (V → V → Bool) → List (Entry (Option V)) → Entry V → Type 0
+AreApartFrom eq [] e = Unit {0}
+AreApartFrom eq (a ∷ answers) e = IsApartFrom (option_eq eq) a (entry e.lo e.hi (Some e.value)) × AreApartFrom eq answers e
+
+-- a call returned a value or `None` that equals the old one
+abbrev pub IsSteady : {V : Type 0} → (V → V → Bool) → Option V → Result (Option V) AllocError → Type 0
+IsSteady eq old (Ok answer) = option_eq eq answer old ≡ true
+IsSteady eq old (Err e) = ⊥
 
 -- `shows` gives the list's value that the arguments of a call stand for
 module _ {F A V : Type 0} (shows : A → Option V) (g : Mut F A (Result (Option V) AllocError)) (eq : V → V → Bool) where
+  -- each call of the function with this old value returns an equal one
+  abbrev pub KeepsValue : Option V → Type 0
+  KeepsValue old = (f f' : F) (r : Result (Option V) AllocError) → AnswersAtValue shows g f old r f' → IsSteady eq old r
+
+  -- so does each call with what a key from l to h has
+  abbrev pub KeepsValues : ℤ → ℤ → List (Entry V) → Type 0
+  KeepsValues l h entries = (k : ℤ) → l ≤ℤ k → k ≤ℤ h → KeepsValue (at entries k)
+
   -- The pieces of the keys from l to h are the greatest ranges there on which the list does not change: its entries, cut to these
   -- keys, and its gaps. The function may be called at each of them in turn, in the state after the calls at those before.
   pub record IsCallableAtPieces (l h : ℤ) (f : F) (entries : List (Entry V)) : Type 0 where
@@ -47,23 +64,25 @@ module _ {F A V : Type 0} (shows : A → Option V) (g : Mut F A (Result (Option 
     pub answers_are : answers ≡ entries_with_results pieces results
 
   module _ (low high l h : ℤ) (f : F) (old new : List (Entry V)) where
-    -- Each piece has the result of the function there, and the other entries are kept. If every result equals the old value,
-    -- nothing changes.
+    -- Each piece has the result of the function there, and each key outside the range its old value. An entry that no changed
+    -- piece overlaps, or is one run with, remains with its very value. If every result equals the old value, nothing changes.
     pub record IsUpdated : Type 0 where
       pub answers : List (Entry (Option V))
       pub asked : AreAnswersAtPieces l h f old answers
       pub range_map : IsRangeMap eq low high new
       pub content : (k : ℤ) → SameOption eq (at new k) (updated answers (at old) k)
-      pub kept : AreOthersKept l h old new
+      pub outside : (k : ℤ) → (k <ℤ l) ⊎ (h <ℤ k) → SameOption eq (at new k) (at old k)
+      pub kept : (e : Entry V) → Contains old e → AreApartFrom eq (changes eq asked.pieces answers) e → Contains new e
       pub same : SameEntries (option_eq eq) answers asked.pieces → new ≡ old
 
-    -- The pieces up to the end of one of them, perhaps none, have the results of the function, and the others
-    -- their old values. The other entries are kept.
+    -- The pieces up to the end of one that changes, perhaps none, have the results of the function, and all other keys their old
+    -- values. Entries remain as with `IsUpdated`.
     pub record IsPartUpdated : Type 0 where
       pub answers : List (Entry (Option V))
       pub asked : AreAnswersAtPieces l h f old answers
       pub last : ℤ
-      pub is_end : (last <ℤ l) ⊎ HasEnd answers last
+      pub is_end : (last <ℤ l) ⊎ HasEnd (changes eq asked.pieces answers) last
       pub range_map : IsRangeMap eq low high new
       pub content : (k : ℤ) → SameOption eq (at new k) (updated_up_to last answers (at old) k)
-      pub kept : AreOthersKept l h old new
+      pub outside : (k : ℤ) → (k <ℤ l) ⊎ (h <ℤ k) → SameOption eq (at new k) (at old k)
+      pub kept : (e : Entry V) → Contains old e → AreApartFrom eq (changes eq asked.pieces answers) e → Contains new e

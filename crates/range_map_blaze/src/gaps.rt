@@ -1,6 +1,6 @@
 //! The gaps of a map within a range, and a map with its gaps filled.
 ghost use Rattle.std.specs.Iterator.{item_count};
-ghost use Rattle.std.specs.Prelude.{◌≤ℤ◌, ◌+ℤ◌, ◌-ℤ◌, ℤ, pos, IsSome, IfOk};
+ghost use Rattle.std.specs.Prelude.{◌≡◌, ◌⊎◌, ◌≤ℤ◌, ◌<ℤ◌, ◌+ℤ◌, ◌-ℤ◌, ℤ, pos, Some, None, IsSome, IfOk};
 ghost use Rattle.blaze_int.specs.Bounds.{start_rank, end_rank};
 ghost use Rattle.blaze_streams.specs.Fills.{IsFilledWithNone};
 ghost use Rattle.blaze_entries.specs.Chosen.{left_alone, IsChosen};
@@ -68,6 +68,15 @@ impl<T: Integer, V: Eq> RangeMapBlaze<T, V> {
         ensures within { R.has_bounds range → IsChosen unit_eq T.low T.high left_alone
             (one_range (start_rank T.rank T.low (R.start_bound range))
             (end_rank T.rank T.high (R.end_bound range))) self.now.entries result }
+        ensures free { R.has_bounds range
+            → (k : ℤ) → start_rank T.rank T.low (R.start_bound range) ≤ℤ k
+            → k ≤ℤ end_rank T.rank T.high (R.end_bound range) → at self.now.entries k ≡ None
+            → at result k ≡ Some tt }
+        ensures taken { R.has_bounds range
+            → (k : ℤ) → IsSome (at self.now.entries k) → at result k ≡ None }
+        ensures outside { R.has_bounds range
+            → (k : ℤ) → (k <ℤ start_rank T.rank T.low (R.start_bound range))
+            ⊎ (end_rank T.rank T.high (R.end_bound range) <ℤ k) → at result k ≡ None }
         ensures somewhere { AreGapsSomewhere T.low T.high self.now.entries result }
     {
         self.in_hand();

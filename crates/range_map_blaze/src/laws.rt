@@ -1,14 +1,21 @@
-//! The laws of bulk changes, of keys taken and put back, of joins and `transform_values`, and of a range changed by a function.
+//! The laws of entries, of bulk changes, of keys taken and put back, of joins and `transform_values`, and of a range changed by a function.
 ghost use Rattle.blaze_streams.specs.Carried.{shown_option};
 ghost use Rattle.blaze_streams.specs.JoinAnswers.{either, both, left_or_both};
-ghost use Rattle.range_map_blaze.specs.MapLaws.{AnswersAreOnItsKeys, FillingIsUnion, FullJoinIsInnerJoin};
-ghost use Rattle.range_map_blaze.specs.MapLaws.{LeftJoinIsOnTheLeftKeys, PaintingInTurnExtends, TakingIsUndone};
+ghost use Rattle.range_map_blaze.specs.MapLaws.{AnswersAreOnItsKeys, EntriesAreRuns, FillingIsUnion, FullJoinIsInnerJoin};
+ghost use Rattle.range_map_blaze.specs.MapLaws.{LeftJoinIsOnTheLeftKeys, PaintingInTurnExtends, TakingIsUndone, WalkedEntriesAreRuns};
 ghost use Rattle.range_map_blaze.specs.TryLaws.{TryIsPlain};
 ghost use Rattle.range_map_blaze.specs.UpdateLaws.{InsertingAbsentIsUpdating, InsertingIsUpdating};
 ghost use Rattle.range_map_blaze.specs.UpdateLaws.{PartUpdatingIsByKeys, RemovingIsUpdating, UpdatingIsByKeys};
 
 use blaze_int::Integer;
 use std::alloc::AllocError;
+
+/// Each entry of a map's list is a run: its keys have its very value, and the keys next to them have no value that is equal to it.
+/// It is one of the list (`Contains`), or a walk over the list comes to it. `in_hand` of a map says that its list is one.
+pub fn entries_are_runs<T: Integer, V: Eq>()
+    ensures member { EntriesAreRuns V.eq T.low T.high }
+    ensures walked { WalkedEntriesAreRuns V.eq T.low T.high }
+{}
 
 /// Pairs that are painted one by one, as `extend_from` and `extend_simple` do, leave the content that painting them in order
 /// gives. They leave at most two entries more for each pair, and every entry that no pair touches.

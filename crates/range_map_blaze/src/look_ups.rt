@@ -1,11 +1,13 @@
 //! Lookups by key, of the entries and gaps around a key, and of the first and last key.
 ghost use Rattle.std.specs.Option.{option_copied};
-ghost use Rattle.std.specs.Prelude.{◌≡◌, ◌↔◌, ℤ, pos, [], IsTrue, IsSome, Some, None, MatchOption};
+ghost use Rattle.std.specs.Prelude.{◌≡◌, ◌↔◌, ℤ, pos, ◌-ℤ◌, ◌≤ℤ◌, ◌<ℤ◌, [], IsTrue, IsSome};
+ghost use Rattle.std.specs.Prelude.{Some, None, MatchOption};
 ghost use Rattle.std.specs.Prelude.{IfSome, option_map, ◌+ℤ◌, find, int_le};
 ghost use Rattle.std.specs.Range.{range_inclusive_start, range_inclusive_end};
 ghost use Rattle.blaze_entries.specs.Starts.{last_below};
 ghost use Rattle.blaze_streams.specs.Ranges.{shown_range};
 ghost use Rattle.blaze_entries.specs.Entries.{at, entry, entry_at, shown_entry};
+ghost use Rattle.blaze_entries.specs.Run.{IsRun};
 ghost use Rattle.blaze_table.specs.Gap.{IsGap};
 ghost use Rattle.blaze_entries.specs.Whole.{IsWhole};
 ghost use Rattle.range_map_blaze.specs.Pairs.{IsFirstPair, IsLastPair};
@@ -69,7 +71,13 @@ impl<T: Integer, V: Eq> RangeMapBlaze<T, V> {
         ensures entry { option_map (shown_range T.rank (λ v. v.now)) result
             ≡ entry_at self.now.entries (T.rank key) }
         ensures whole { IfSome result (λ pair. IsWhole pair.0) }
+        ensures holds { IfSome result (λ pair. (T.rank (range_inclusive_start pair.0) ≤ℤ T.rank key)
+            × (T.rank key ≤ℤ T.rank (range_inclusive_end pair.0))) }
+        ensures run { IfSome result (λ pair. IsRun V.eq (at self.now.entries)
+            (T.rank (range_inclusive_start pair.0)) (T.rank (range_inclusive_end pair.0)) pair.1.now) }
+        ensures none { result ≡ None → at self.now.entries (T.rank key) ≡ None }
     {
+        self.in_hand();
         range_of(self.table.find(key))
     }
 
@@ -84,7 +92,15 @@ impl<T: Integer, V: Eq> RangeMapBlaze<T, V> {
         ensures entry { option_map (shown_range T.rank (λ v. v.now)) result
             ≡ find (λ e. int_le (T.rank key) e.hi) self.now.entries }
         ensures whole { IfSome result (λ pair. IsWhole pair.0) }
+        ensures run { IfSome result (λ pair. IsRun V.eq (at self.now.entries)
+            (T.rank (range_inclusive_start pair.0)) (T.rank (range_inclusive_end pair.0)) pair.1.now) }
+        ensures reaches { IfSome result
+            (λ pair. T.rank key ≤ℤ T.rank (range_inclusive_end pair.0)) }
+        ensures clear { IfSome result (λ pair. (k : ℤ) → T.rank key ≤ℤ k
+            → k <ℤ T.rank (range_inclusive_start pair.0) → at self.now.entries k ≡ None) }
+        ensures none { result ≡ None → (k : ℤ) → T.rank key ≤ℤ k → at self.now.entries k ≡ None }
     {
+        self.in_hand();
         range_of(self.entry_at_or_above(key))
     }
 
@@ -112,7 +128,15 @@ impl<T: Integer, V: Eq> RangeMapBlaze<T, V> {
         ensures entry { option_map (shown_range T.rank (λ v. v.now)) result
             ≡ last_below (T.rank key +ℤ pos 1) self.now.entries }
         ensures whole { IfSome result (λ pair. IsWhole pair.0) }
+        ensures run { IfSome result (λ pair. IsRun V.eq (at self.now.entries)
+            (T.rank (range_inclusive_start pair.0)) (T.rank (range_inclusive_end pair.0)) pair.1.now) }
+        ensures reaches { IfSome result
+            (λ pair. T.rank (range_inclusive_start pair.0) ≤ℤ T.rank key) }
+        ensures clear { IfSome result (λ pair. (k : ℤ) → T.rank (range_inclusive_end pair.0) <ℤ k
+            → k ≤ℤ T.rank key → at self.now.entries k ≡ None) }
+        ensures none { result ≡ None → (k : ℤ) → k ≤ℤ T.rank key → at self.now.entries k ≡ None }
     {
+        self.in_hand();
         range_of(self.entry_at_or_below(key))
     }
 
@@ -146,9 +170,22 @@ impl<T: Integer, V: Eq> RangeMapBlaze<T, V> {
             ≡ Some (entry (T.rank (range_inclusive_start result.0))
             (T.rank (range_inclusive_end result.0)) v.now)) }
         ensures whole { IsWhole result.0 }
+        ensures holds { (T.rank (range_inclusive_start result.0) ≤ℤ T.rank key)
+            × (T.rank key ≤ℤ T.rank (range_inclusive_end result.0)) }
+        ensures run { (k : ℤ) → T.rank (range_inclusive_start result.0) ≤ℤ k
+            → k ≤ℤ T.rank (range_inclusive_end result.0)
+            → at self.now.entries k ≡ option_copied result.1 }
+        ensures below { result.1 ≡ None → T.low <ℤ T.rank (range_inclusive_start result.0)
+            → IsSome (at self.now.entries (T.rank (range_inclusive_start result.0) -ℤ pos 1)) }
+        ensures above { result.1 ≡ None → T.rank (range_inclusive_end result.0) <ℤ T.high
+            → IsSome (at self.now.entries (T.rank (range_inclusive_end result.0) +ℤ pos 1)) }
     {
+        self.in_hand();
         match self.table.find(key) {
-            Some((start, end, value)) => (start..=end, Some(value)),
+            Some(entry) => {
+                let (start, end, value) = entry;
+                (start..=end, Some(value))
+            }
             None => {
                 let (start, end) = self.table.gap_round(key);
                 (start..=end, None)

@@ -4,8 +4,9 @@ ghost use Rattle.std.specs.Prelude.{◌≡◌, ◌≤ℤ◌, ◌<ℤ◌, [], Lis
 ghost use Rattle.blaze_int.specs.Bounds.{start_rank, end_rank};
 ghost use Rattle.blaze_streams.specs.Ranges.{shown_range};
 ghost use Rattle.blaze_entries.specs.Ending.{overlapping};
-ghost use Rattle.blaze_entries.specs.Entries.{Entry};
+ghost use Rattle.blaze_entries.specs.Entries.{Entry, at};
 ghost use Rattle.blaze_entries.specs.Whole.{YieldsWholeFirst, YieldsWholeLast};
+ghost use Rattle.blaze_table.specs.Gap.{IsClearFrom};
 ghost use Rattle.range_map_blaze.specs.Somewhere.{IsOverlappingSomewhere};
 ghost use Rattle.range_map_blaze.specs.Within.{within};
 
@@ -59,6 +60,9 @@ impl<T: Integer, V: Eq> RangeMapBlaze<T, V> {
             → end_rank T.rank T.high (R.end_bound range) <ℤ start_rank T.rank T.low
             (R.start_bound range)
             → result ≡ [] }
+        ensures free { R.has_bounds range → result ≡ []
+            → IsClearFrom (at self.now.entries) (start_rank T.rank T.low (R.start_bound range))
+            (end_rank T.rank T.high (R.end_bound range)) }
         ensures somewhere { IsOverlappingSomewhere self.now.entries result }
     {
         match bounds_of(&range) {

@@ -1,7 +1,7 @@
 //! A range of keys changed by a function. All calls of the function come first, and then the pieces are edited, so that an error
 //! of the function changes nothing.
 ghost use Rattle.std.specs.Option.{option_eq};
-ghost use Rattle.std.specs.Prelude.{◌≡◌, ◌⊎◌, ◌<ℤ◌, ◌≤ℤ◌, ℤ, pos, ◌+ℤ◌, Some, None, Ok, IfOk, OnOk, OnErr};
+ghost use Rattle.std.specs.Prelude.{◌≡◌, ◌⊎◌, ◌<ℤ◌, ◌≤ℤ◌, ℤ, pos, ◌+ℤ◌, [], Some, None, Ok, IfOk, IsOk, OnOk, OnErr};
 ghost use Rattle.blaze_int.specs.Bounds.{start_rank, end_rank};
 ghost use Rattle.blaze_streams.specs.Answers.{TakesValue};
 ghost use Rattle.blaze_streams.specs.Carried.{shown_option};
@@ -13,7 +13,7 @@ ghost use Rattle.blaze_entries.specs.Painted.{ClonesAreAlike};
 ghost use Rattle.blaze_table.specs.Work.{IsCounted};
 ghost use Rattle.range_map_blaze.specs.Edits.{AreEdits, AreEdited, AreEntriesAsked, ArePiecesAsked, IsEdited, IsPartEdited, IsPieceAsked};
 ghost use Rattle.range_map_blaze.specs.Somewhere.{IsUpdatedSomewhere};
-ghost use Rattle.range_map_blaze.specs.Updated.{IsCallableAtPieces, IsPartUpdated, IsUpdated};
+ghost use Rattle.range_map_blaze.specs.Updated.{IsCallableAtPieces, IsPartUpdated, IsUpdated, KeepsValue, KeepsValues};
 
 use crate::map::RangeMapBlaze;
 use blaze_int::compare::{greater, is_at_most, is_below, lesser};
@@ -30,9 +30,11 @@ impl<T: Integer, V: Eq + Clone> RangeMapBlaze<T, V> {
     /// `f` returns is the value of all keys of the piece afterwards; `None` leaves them without a value. All calls are made
     /// before the map is edited. Bounds that name no key call and change nothing.
     ///
-    /// A piece whose result equals its old value is not edited and does not allocate. If `f` returns `Err`, or the list of
-    /// results can't be allocated, the map is unchanged. If a later allocation fails, the pieces up to one of them have their new
-    /// values, and those above it their old ones.
+    /// A piece whose result equals its old value is not edited and does not allocate. Its entry keeps its stored value, unless a
+    /// changed piece next to it becomes one entry with it. If each result equals the old value, the call succeeds.
+    ///
+    /// If `f` returns `Err`, or the list of results can't be allocated, the map is unchanged. If a later allocation fails, the
+    /// pieces up to one that changes have their new values, and those above it their old ones.
     ///
     /// O(log n) for n entries, O(1) for each piece, and O(log n) for each edit and each entry that an edit removes.
     ///
@@ -61,6 +63,11 @@ impl<T: Integer, V: Eq + Clone> RangeMapBlaze<T, V> {
             → end_rank T.rank T.high (R.end_bound range) <ℤ start_rank T.rank T.low
             (R.start_bound range)
             → (result ≡ Ok tt) × (self.new ≡ self.old) }
+        ensures steady { R.has_bounds range
+            → KeepsValues (λ a. shown_option (λ v. v.now) a.0) F.FnMut V.eq
+            (start_rank T.rank T.low (R.start_bound range))
+            (end_rank T.rank T.high (R.end_bound range)) self.old.entries
+            → result ≡ Ok tt }
         ensures somewhere { IsUpdatedSomewhere (λ a. shown_option (λ v. v.now) a.0) F.FnMut V.eq
             T.low T.high f self.old.entries self.new.entries }
         ensures counted { IsCounted self.old self.new }
@@ -88,6 +95,8 @@ impl<T: Integer, V: Eq + Clone> RangeMapBlaze<T, V> {
         ensures err { OnErr result ((self.new.entries ≡ self.old.entries)
             ⊎ IsPartUpdated (λ a. shown_option (λ v. v.now) a.0) F.FnMut V.eq T.low T.high
             (T.rank start) (T.rank end) f self.old.entries self.new.entries) }
+        ensures steady { KeepsValues (λ a. shown_option (λ v. v.now) a.0) F.FnMut V.eq (T.rank start)
+            (T.rank end) self.old.entries → result ≡ Ok tt }
         ensures counted { IsCounted self.old self.new }
     {
         start.in_hand();
@@ -106,8 +115,10 @@ impl<T: Integer, V: Eq + Clone> RangeMapBlaze<T, V> {
         requires order { T.rank start ≤ℤ T.rank end }
         requires callable { IsCallableAtPieces (λ a. shown_option (λ v. v.now) a.0) F.FnMut V.eq
             (T.rank start) (T.rank end) f self.now.entries }
-        ensures { IfOk result (λ edits. AreEdits (λ a. shown_option (λ v. v.now) a.0) F.FnMut V.eq
-            (T.rank start) (T.rank end) f self.now.entries (shown_list T.rank edits.items)) }
+        ensures edits { IfOk result (λ edits. AreEdits (λ a. shown_option (λ v. v.now) a.0) F.FnMut
+            V.eq (T.rank start) (T.rank end) f self.now.entries (shown_list T.rank edits.items)) }
+        ensures steady { KeepsValues (λ a. shown_option (λ v. v.now) a.0) F.FnMut V.eq (T.rank start)
+            (T.rank end) self.now.entries → IsOk result }
     {
         edits_of(&self.table, start, end, f)
     }
@@ -130,9 +141,11 @@ impl<T: Integer, V: Eq + Clone, F: FnMut(Option<&V>) -> Result<Option<V>, AllocE
     fn ask(&mut self, start: T, end: T, old: Option<&V>) -> Result<(), AllocError>
         requires callable { TakesValue (λ a. shown_option (λ v. v.now) a.0) F.FnMut self.old.f
             (shown_option (λ v. v.now) old) }
-        ensures { OnOk result (IsPieceAsked (λ a. shown_option (λ v. v.now) a.0) F.FnMut V.eq
+        ensures asked { OnOk result (IsPieceAsked (λ a. shown_option (λ v. v.now) a.0) F.FnMut V.eq
             (entry (T.rank start) (T.rank end) (shown_option (λ v. v.now) old.entry)) self.old.f self.new.f
             (shown_list T.rank self.old.edits.items) (shown_list T.rank self.new.edits.items)) }
+        ensures steady { KeepsValue (λ a. shown_option (λ v. v.now) a.0) F.FnMut V.eq
+            (shown_option (λ v. v.now) old.entry) → result ≡ Ok tt }
     {
         let answer = (self.f)(old)?;
         if !is_same(&answer, old) {
@@ -145,9 +158,11 @@ impl<T: Integer, V: Eq + Clone, F: FnMut(Option<&V>) -> Result<Option<V>, AllocE
     fn ask_below(&mut self, next: Option<T>, start: T) -> Result<(), AllocError>
         requires callable { rank_or_end T.rank T.high next <ℤ T.rank start
             → TakesValue (λ a. shown_option (λ v. v.now) a.0) F.FnMut self.old.f None }
-        ensures { OnOk result (ArePiecesAsked (λ a. shown_option (λ v. v.now) a.0) F.FnMut V.eq
+        ensures asked { OnOk result (ArePiecesAsked (λ a. shown_option (λ v. v.now) a.0) F.FnMut V.eq
             (none_before (rank_or_end T.rank T.high next) (T.rank start)) self.old.f self.new.f
             (shown_list T.rank self.old.edits.items) (shown_list T.rank self.new.edits.items)) }
+        ensures steady { (rank_or_end T.rank T.high next <ℤ T.rank start
+            → KeepsValue (λ a. shown_option (λ v. v.now) a.0) F.FnMut V.eq None) → result ≡ Ok tt }
     {
         start.in_hand();
         if let Some(first) = next {
@@ -164,9 +179,11 @@ impl<T: Integer, V: Eq + Clone, F: FnMut(Option<&V>) -> Result<Option<V>, AllocE
     fn ask_up_to(&mut self, next: Option<T>, end: T) -> Result<(), AllocError>
         requires callable { rank_or_end T.rank T.high next <ℤ (T.rank end +ℤ pos 1)
             → TakesValue (λ a. shown_option (λ v. v.now) a.0) F.FnMut self.old.f None }
-        ensures { OnOk result (ArePiecesAsked (λ a. shown_option (λ v. v.now) a.0) F.FnMut V.eq
+        ensures asked { OnOk result (ArePiecesAsked (λ a. shown_option (λ v. v.now) a.0) F.FnMut V.eq
             (none_before (rank_or_end T.rank T.high next) (T.rank end +ℤ pos 1)) self.old.f self.new.f
             (shown_list T.rank self.old.edits.items) (shown_list T.rank self.new.edits.items)) }
+        ensures steady { (rank_or_end T.rank T.high next <ℤ (T.rank end +ℤ pos 1)
+            → KeepsValue (λ a. shown_option (λ v. v.now) a.0) F.FnMut V.eq None) → result ≡ Ok tt }
     {
         end.in_hand();
         if let Some(first) = next {
@@ -189,10 +206,12 @@ impl<T: Integer, V: Eq + Clone, F: FnMut(Option<&V>) -> Result<Option<V>, AllocE
         requires order { T.rank start ≤ℤ T.rank end }
         requires callable { IsCallableAtPieces (λ a. shown_option (λ v. v.now) a.0) F.FnMut V.eq
             (T.rank start) (T.rank end) self.old.f table.now.entries }
-        ensures { IfOk result (λ next. AreEntriesAsked (λ a. shown_option (λ v. v.now) a.0) F.FnMut
-            V.eq (T.rank start) (T.rank end) table.now.entries (rank_or_end T.rank T.high next)
-            self.old.f self.new.f (shown_list T.rank self.old.edits.items)
-            (shown_list T.rank self.new.edits.items)) }
+        ensures asked { IfOk result (λ next. AreEntriesAsked (λ a. shown_option (λ v. v.now) a.0)
+            F.FnMut V.eq (T.rank start) (T.rank end) table.now.entries
+            (rank_or_end T.rank T.high next) self.old.f self.new.f
+            (shown_list T.rank self.old.edits.items) (shown_list T.rank self.new.edits.items)) }
+        ensures steady { KeepsValues (λ a. shown_option (λ v. v.now) a.0) F.FnMut V.eq (T.rank start)
+            (T.rank end) table.now.entries → IsOk result }
     {
         table.in_hand();
         let mut next = Some(start);
@@ -230,8 +249,10 @@ fn edits_of<T: Integer, V: Eq + Clone, F: FnMut(Option<&V>) -> Result<Option<V>,
     requires order { T.rank start ≤ℤ T.rank end }
     requires callable { IsCallableAtPieces (λ a. shown_option (λ v. v.now) a.0) F.FnMut V.eq
         (T.rank start) (T.rank end) f table.now.entries }
-    ensures { IfOk result (λ edits. AreEdits (λ a. shown_option (λ v. v.now) a.0) F.FnMut V.eq
+    ensures edits { IfOk result (λ edits. AreEdits (λ a. shown_option (λ v. v.now) a.0) F.FnMut V.eq
         (T.rank start) (T.rank end) f table.now.entries (shown_list T.rank edits.items)) }
+    ensures steady { KeepsValues (λ a. shown_option (λ v. v.now) a.0) F.FnMut V.eq (T.rank start)
+        (T.rank end) table.now.entries → IsOk result }
 {
     table.in_hand();
     let mut asking = Asking {
@@ -270,6 +291,7 @@ impl<T: Integer, V: Eq + Clone> RangeMapBlaze<T, V> {
             self.old.entries self.new.entries) }
         ensures err { OnErr result (IsPartEdited V.eq T.low T.high (shown_list T.rank edits.items)
             self.old.entries self.new.entries) }
+        ensures none { shown_list T.rank edits.items ≡ [] → result ≡ Ok tt }
         ensures counted { IsCounted self.old self.new }
     {
         self.in_hand();

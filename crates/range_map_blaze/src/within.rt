@@ -8,6 +8,7 @@ ghost use Rattle.blaze_streams.specs.Ranges.{shown_range};
 ghost use Rattle.blaze_entries.specs.Count.{keys_in, mapped_keys};
 ghost use Rattle.blaze_entries.specs.Entries.{Entry, at};
 ghost use Rattle.blaze_entries.specs.Whole.{IsWhole, YieldsWholeFirst, YieldsWholeLast};
+ghost use Rattle.blaze_table.specs.Gap.{IsClearFrom};
 ghost use Rattle.range_map_blaze.specs.EntriesWithin.{IsWithin, IsWithinSomewhere, IsCountSomewhere};
 
 use crate::map::RangeMapBlaze;
@@ -94,6 +95,9 @@ impl<T: Integer, V: Eq> RangeMapBlaze<T, V> {
             → end_rank T.rank T.high (R.end_bound range) <ℤ start_rank T.rank T.low
             (R.start_bound range)
             → T.SafeLen.number result ≡ 0 }
+        ensures free { R.has_bounds range → T.SafeLen.number result ≡ 0
+            → IsClearFrom (at self.now.entries) (start_rank T.rank T.low (R.start_bound range))
+            (end_rank T.rank T.high (R.end_bound range)) }
         ensures somewhere { IsCountSomewhere self.now.entries (T.SafeLen.number result) }
     {
         self.in_hand();

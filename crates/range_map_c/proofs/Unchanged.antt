@@ -112,13 +112,13 @@ module _ (left right : List (Entry ℕ)) (l : IsRangeMap nat_eq least_key greate
   -- the union with a map whose entries are inside
   pub union_inside : AreInside nat_eq right left → IsUnion nat_eq least_key greatest_key left right left
   union_inside i = record {
-    chosen = record { range_map = l; content = λ k. same_along nat_eq refl (turned (at right k) (at left k)) (inside_left i k) };
+    chosen = chosen l (λ k. same_along nat_eq refl (turned (at right k) (at left k)) (inside_left i k));
     few = omega arith;
   }
 
   -- the intersection of a map whose entries are inside another, which gives the values
   pub intersection_inside : AreInside nat_eq right left → IsChosen nat_eq least_key greatest_key left_with_right left right right
-  intersection_inside i = record { range_map = r; content = λ k. shared (at right k) (at left k) (inside_left i k) }
+  intersection_inside i = chosen r (λ k. shared (at right k) (at left k) (inside_left i k))
     where
       shared : (x y : Option ℕ) → SameOption nat_eq y (option_or x y) → SameOption nat_eq x (left_with_right y x)
       shared None y s = tt
@@ -126,7 +126,7 @@ module _ (left right : List (Entry ℕ)) (l : IsRangeMap nat_eq least_key greate
 
 -- the difference of maps that share no key
 pub difference_apart : (left right : List (Entry ℕ)) → IsRangeMap nat_eq least_key greatest_key left → ShareNoKey left right → IsChosen nat_eq least_key greatest_key left_alone left right left
-difference_apart left right l apart = record { range_map = l; content = λ k. alone (at left k) (at right k) (apart k) }
+difference_apart left right l apart = chosen l (λ k. alone (at left k) (at right k) (apart k))
   where
     alone : (x y : Option ℕ) → (x ≡ None) ⊎ (y ≡ None) → SameOption nat_eq x (left_alone x y)
     alone x None e = same_itself nat_eq nat_eq_equiv x

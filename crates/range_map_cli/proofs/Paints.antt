@@ -66,10 +66,7 @@ module _ {V : Type 0} (eq : V → V → Bool) (laws : IsEquivalence eq) (low hig
 
   -- pairs whose last values are those of a list
   union_painted : (a b pairs new : List (Entry V)) → ((k : ℤ) → last_at pairs k ≡ at b k) → IsPaintedInOrder pairs a new → IsChosen eq low high right_first a b new
-  union_painted a b pairs new lasts p = record {
-    range_map = p.range_map;
-    content = λ k. same_along eq refl (ap (λ o. option_or o (at a k)) (lasts k) ∙ turned (at b k) (at a k)) (p.content k);
-  }
+  union_painted a b pairs new lasts p = chosen p.range_map (λ k. same_along eq refl (ap (λ o. option_or o (at a k)) (lasts k) ∙ turned (at b k) (at a k)) (p.content k))
 
   pub union_is_painting : UnionIsPainting eq low high
   union_is_painting a b union ra rb chosen = record {

@@ -1,7 +1,7 @@
 -- The entry that holds a key is a run of the words, and the gap round a key is one of the words.
 use Rattle.range_map_cli.proofs.Words.{◌≡◌, ℕ, ℤ, pos, ◌+ℤ◌, ◌-ℤ◌, ◌≤ℤ◌, ◌<ℤ◌, List, [], ◌∷◌, ◌++◌, refl, sym, ap, ◌∙◌, subst, Option, Some, None, MatchOption, string_bytes, option_map, arith, codes, append_assoc, option_copied, Bor, signed_decimal, String, Global, string_eq, ints, by_lt_z, Entry, entry, at, entry_at, IsRunStart, IsRunEnd, IsRangeMap, IsGap, holds_in, holds_ends, At, IsSameFrom, IsGreatestPiece, Content, greatest_key, least_key, line, Replies, word_or_dash, content_of}
 use Rattle.range_map_cli.proofs.Contents.{alike_words}
-use Rattle.range_map_cli.proofs.Stepping.EntryAt.{entry_holds, entry_starts, entry_ends, entry_keys, entry_value}
+use Rattle.blaze_entries.proofs.Canonical.EntryAt.{entry_holds, entry_starts, entry_ends, entry_keys, entry_value}
 
 -- the entry of a canonical list that holds a key
 module _ (low high : ℤ) (es : List (Entry (String Global))) (k a b : ℤ) (v : String Global) (map : IsRangeMap string_eq low high es) (is : entry_at es k ≡ Some (entry a b v)) where

@@ -1,4 +1,3 @@
-pub mod EntryAt
 pub mod EndKeys
 pub mod Stepped
 pub mod Kinds

@@ -3,16 +3,17 @@ use Rattle.blaze_entries.proofs.Words.{◌≡◌, ℕ, ℤ, pos, ◌+ℤ◌, ◌
 use Rattle.blaze_entries.proofs.Canonical.Lookup.{IsAbove, IsAbove-from_apart, above_by}
 use Rattle.blaze_entries.proofs.Canonical.Runs.{one_per_run}
 use Rattle.blaze_entries.proofs.Paints.Kept.{kept_alone}
+use Rattle.blaze_entries.proofs.Plain.{painted_inside, painted_outside, cut_here, cut_others}
 
 module _ {V : Type 0} (eq : V → V → Bool) (laws : IsEquivalence eq) (low high : ℤ) (n : ℕ) where
   pub range_map : (es : List (Entry V)) → IsTable eq low high n es → IsRangeMap eq low high es
   range_map es t = record { runs = one_per_run eq laws es t.canonical; keys = t.are_keys }
 
   pub painted_map : (p : Entry V) (old new : List (Entry V)) → p.lo ≤ℤ p.hi → IsTablePainted eq low high n p old new → (IsInside eq p.lo p.hi p.value old → new ≡ old) → IsPainted eq low high p old new
-  painted_map p old new w t inside = let d = t.painted in record { range_map = range_map new t.table; content = d.content; few = d.few; alone = d.alone; kept = kept_alone eq p old new w d.kept inside }
+  painted_map p old new w t inside = let d = t.painted in record { range_map = range_map new t.table; content = d.content; inside = painted_inside eq old new p d.content; outside = painted_outside eq old new p d.content; few = d.few; alone = d.alone; kept = kept_alone eq p old new w d.kept inside }
 
   pub cut_map : (k : ℤ) (value : Option V) (old new : List (Entry V)) → IsKeyCut eq low high n k value old new → IsKeyRemoved eq low high k old new
-  cut_map k value old new c = record { range_map = range_map new c.table; content = c.content }
+  cut_map k value old new c = record { range_map = range_map new c.table; content = c.content; here = cut_here eq old new k c.content; others = cut_others eq old new k c.content }
 
 module _ {V : Type 0} (eq : V → V → Bool) (laws : IsEquivalence eq) (low high : ℤ) where
   pub split_maps : (m n : ℕ) (k : ℤ) (old below from : List (Entry V)) → IsTable eq low high m below → IsTable eq low high n from → IsListSplit eq k old below from → IsSplit eq low high k old below from

@@ -1,5 +1,5 @@
 -- A list without a range of keys, from its parts.
-use Rattle.blaze_table.proofs.Words.{option_or, ◌≡◌, ◌⊎◌, inl, inr, ℕ, ℤ, pos, ◌+ℤ◌, ◌≤ℤ◌, ◌<ℤ◌, Bool, false, cond, List, [], ◌∷◌, ◌++◌, Option, Some, None, refl, ◌∙◌, sym, ap, subst, arith, IsEquivalence, Contains, Contains-append_left, int_eq, ints, by_lt_z, and_left, eq_true, le_true, le_false, same_along, same_trans, same_or_right, Entry, at, SameOption, entry, IsCanonical, AreKeys, keys_in, before, after, glue, IsBelow, IsListWithoutRange, IsListWithoutKey, IsTableCut, overlap, covered_keys, cut_at, cut_range_at, IsRangeCut, IsTable, overlap_none, IsAbove, above_rest, at_in, at_over, at_before, above_by, range_map, back, in_before, by_before, after_skips, by_after, canonical_glue, canonical_before, canonical_after, at_glue, above_after, below_before, at-before_under, at-before_over, at-after_over, below_more, entries_themselves, canonical_as, above_as, content_as, keys_apart, covered_none, overlap_most, keys_glue, are_keys_glue, are_keys_before, are_keys_after, are_keys_as, same_keys_in}
+use Rattle.blaze_table.proofs.Words.{option_or, ◌≡◌, ◌⊎◌, inl, inr, ℕ, ℤ, pos, ◌+ℤ◌, ◌≤ℤ◌, ◌<ℤ◌, Bool, false, cond, List, [], ◌∷◌, ◌++◌, Option, Some, None, refl, ◌∙◌, sym, ap, subst, arith, IsEquivalence, Contains, Contains-append_left, int_eq, ints, by_lt_z, and_left, eq_true, le_true, le_false, same_along, same_trans, same_or_right, Entry, at, SameOption, entry, IsCanonical, AreKeys, keys_in, before, after, glue, IsBelow, IsListWithoutRange, IsListWithoutKey, IsTableCut, overlap, covered_keys, cut_at, cut_range_at, IsRangeCut, IsTable, overlap_none, IsAbove, above_rest, at_in, at_over, at_before, above_by, range_map, back, in_before, by_before, after_skips, by_after, canonical_glue, canonical_before, canonical_after, at_glue, above_after, below_before, at-before_under, at-before_over, at-after_over, below_more, entries_themselves, canonical_as, above_as, content_as, keys_apart, covered_none, overlap_most, keys_glue, are_keys_glue, are_keys_before, are_keys_after, are_keys_as, same_keys_in, cut_inside, cut_outside}
 
 module _ {V : Type 0} (eq : V → V → Bool) where
   pub after_all : (k : ℤ) (es : List (Entry V)) → IsCanonical eq es → IsAbove k es → after k es ≡ es
@@ -124,10 +124,15 @@ module _ {V : Type 0} (eq : V → V → Bool) (l h : ℤ) where
 pub range_cut_map : {V : Type 0} (eq : V → V → Bool) (laws : IsEquivalence eq) (low high : ℤ) (n : ℕ) (l h : ℤ) → l ≤ℤ h → (old new : List (Entry V)) → IsCanonical eq old → IsTableCut eq low high n l h old new → IsRangeCut eq low high l h old new
 range_cut_map {V} eq laws low high n l h w old new c r = record {
   range_map = range_map eq laws low high n new r.table;
-  content = range_cut_content eq laws l h w old new c r.taken.cut;
+  content = content;
+  inside = cut_inside eq old new l h content;
+  outside = cut_outside eq old new l h content;
   kept = kept;
 }
   where
+    content : (j : ℤ) → SameOption eq (at new j) (cut_range_at l h (at old) j)
+    content = range_cut_content eq laws l h w old new c r.taken.cut
+
     kept : (e : Entry V) → Contains old e → (e.hi <ℤ l) ⊎ (h <ℤ e.lo) → Contains new e
     kept e i (inl u) = subst (λ xs. Contains xs e) (sym r.taken.cut.joined) (Contains-append_left (before l old) r.taken.cut.above e (in_before eq l old e c i u))
     kept e i (inr u) = r.taken.kept e i u

@@ -1,6 +1,6 @@
 -- The gaps of a range get a value one by one.
 use Rattle.blaze_table.proofs.Words.{none_is_not, option_or, ◌≡◌, ℕ, ℤ, pos, ◌+ℤ◌, ◌-ℤ◌, ◌≤ℤ◌, ◌<ℤ◌, Bool, true, false, cond, List, [], Option, Some, None, refl, ◌∙◌, sym, ap, subst, arith, inl, inr, ◌↔◌, IsSome, IsTrue, IsEquivalence, Contains, ints, by_lt_z, same_along, same_itself, same_trans, some_of_same, none_of_same, AreKeys, IsCanonical, Entry, entry, at, holds, SameOption, SameContent, filled_content, AreStartsKept, IsFilled, IsMappedFrom, IsFirstGap, never_equal, IsBeside, IsFilledBut, IsFilling, IsGapFilled, IsJoinedBut, IsOrdered, IsOrderedTable, IsClearFrom, painted_content, keys_among, by_place, holds_in, holds_under, holds_over, one_per_run}
-use Rattle.blaze_table.proofs.Fills.Filled.{filled_in, filled_under, filled_over, filled_held, or_some}
+use Rattle.blaze_table.proofs.Fills.Filled.{filled_in, filled_under, filled_over, filled_held, or_some, fill_inside, fill_held, fill_outside}
 use Rattle.blaze_table.proofs.Fills.Gaps.{joined_more, new_over}
 use Rattle.blaze_table.proofs.Fills.Joints.{run_start_as}
 use Rattle.blaze_table.proofs.Fills.KeptEntries.{are_kept}
@@ -147,13 +147,19 @@ module _ {V : Type 0} (eq : V → V → Bool) (laws : IsEquivalence eq) where
       → SameContent eq new put → AreStartsKept eq (at put) put new → IsCanonical eq new → AreKeys low high new → IsFilled eq low high (entry l h v) old new
   filled_whole low high l h a b v starts join_keys old put new d g f s t c k = record {
     range_map = record { runs = one_per_run eq laws new c; keys = k };
-    content = λ j. same_trans eq laws (at new j) (at put j) (filled_content l h v (at old) j) (s j) (whole j);
-    kept = are_kept eq laws (filled_content l h v (at old)) old new d c (λ j. same_trans eq laws (at new j) (at put j) (filled_content l h v (at old) j) (s j) (whole j))
+    content = content;
+    inside = fill_inside eq (entry l h v) old new content;
+    held = fill_held eq (entry l h v) old new content;
+    outside = fill_outside eq (entry l h v) old new content;
+    kept = are_kept eq laws (filled_content l h v (at old)) old new d c content
         (λ e x r. t e (f.kept e x) (run_start_as eq laws (filled_content l h v (at old)) (at put) e.lo whole r));
   }
     where
       whole : (j : ℤ) → SameOption eq (at put j) (filled_content l h v (at old) j)
       whole j = same_along eq {a = at put j} refl (filled_from (at old) v l a h g.from (omega (arith, ints, g.order, g.to)) g.held j) (f.content j)
+
+      content : (j : ℤ) → SameOption eq (at new j) (filled_content l h v (at old) j)
+      content j = same_trans eq laws (at new j) (at put j) (filled_content l h v (at old) j) (s j) (whole j)
 
   -- if a gap exists, not each key has a value
   pub gap_is_not_held : (old : List (Entry V)) (l h a b : ℤ) → IsFirstGap (at old) l h a b → IsMappedFrom (at old) l h → ⊥

@@ -1,18 +1,23 @@
 -- Edits made one after another, and what a range map has once they are made, all of them or a first part.
-use Rattle.range_map_blaze.proofs.Words.{AllocError, ◌≡◌, ◌⊎◌, ℤ, pos, ◌+ℤ◌, ◌-ℤ◌, ◌≤ℤ◌, ◌<ℤ◌, Bool, cond, List, [], ◌∷◌, ◌++◌, Option, Some, None, Result, Ok, Err, OnOk, OnErr, refl, ◌∙◌, sym, ap, subst, arith, inl, inr, ints, by_lt_z, IsEquivalence, options_equiv, Mut, option_eq, option_or, le_true, le_false, same_along, same_itself, same_trans, or_none, IsCanonical, IsRangeMap, AreKeys, HasEnd, IsRangeCut, Entry, entry, at, holds, SameOption, IsPainted, IsBelow, IsAbove, IsAbove-from_apart, above_low, at_append, at_before, holds_in, holds_under, holds_over, at_in, at_under, at_over, by_place, canonical, one_per_run, ends_below, at_past, AreAside, AreEdits, AreEdited, AreEndsOf, IsEdited, IsPartEdited, IsUpdatedSomewhere, answer_or, updated, IsAside, IsPartUpdated, IsUpdated}
+use Rattle.range_map_blaze.proofs.Words.{AllocError, ◌≡◌, ◌⊎◌, ℤ, pos, ◌+ℤ◌, ◌-ℤ◌, ◌≤ℤ◌, ◌<ℤ◌, Bool, cond, List, [], ◌∷◌, ◌++◌, Option, Some, None, Result, Ok, Err, OnOk, OnErr, refl, ◌∙◌, sym, ap, subst, arith, inl, inr, ints, by_lt_z, IsEquivalence, options_equiv, Mut, option_eq, option_or, le_true, le_false, same_along, same_itself, same_trans, or_none, IsCanonical, IsRangeMap, AreKeys, HasEnd, IsRangeCut, Entry, entry, at, holds, SameOption, IsPainted, IsBelow, IsAbove, IsAbove-from_apart, above_low, at_append, at_before, holds_in, holds_under, holds_over, at_in, at_under, at_over, by_place, canonical, one_per_run, ends_below, at_past, AreEdits, AreEdited, AreEndsOf, IsEdited, IsPartEdited, IsUpdatedSomewhere, answer_or, updated, changes, AreApartFrom, IsApartFrom, IsPartUpdated, IsUpdated}
+use Rattle.range_map_blaze.proofs.JoinedKeys.{below_all, above_all}
 
 module _ {V : Type 0} (eq : V → V → Bool) (laws : IsEquivalence eq) (low high : ℤ) where
   -- ---- one edit
 
   pub painted_edit : (l h : ℤ) (v : V) (old new : List (Entry V)) → IsPainted eq low high (entry l h v) old new → IsEdited eq low high (entry l h (Some v)) old new
-  painted_edit l h v old new p = record { range_map = p.range_map; content = p.content; kept = λ e i u. p.kept e i (inr (inl u)) }
+  painted_edit l h v old new p = record { range_map = p.range_map; content = p.content; kept = λ e i u. p.kept e i (inr (inl (apart e u))) }
+    where
+      apart : (e : Entry V) → IsApartFrom (option_eq eq) (entry l h (Some v)) (entry e.lo e.hi (Some e.value)) → IsApartFrom eq (entry l h v) e
+      apart e (inl u) = inl (record { below = u.below; unequal = u.unequal })
+      apart e (inr u) = inr (record { below = u.below; unequal = u.unequal })
 
   cut_edit : (l h : ℤ) (old new : List (Entry V)) → IsRangeCut eq low high l h old new → IsEdited eq low high (entry l h None) old new
   cut_edit l h old new p = record { range_map = p.range_map; content = p.content; kept = λ e i u. p.kept e i (off e u) }
     where
-      off : (e : Entry V) → IsAside l h e → (e.hi <ℤ l) ⊎ (h <ℤ e.lo)
-      off e (inl u) = inr (omega (arith, ints))
-      off e (inr u) = inl (omega (arith, ints))
+      off : (e : Entry V) → IsApartFrom (option_eq eq) (entry l h None) (entry e.lo e.hi (Some e.value)) → (e.hi <ℤ l) ⊎ (h <ℤ e.lo)
+      off e (inl u) = inr u.below
+      off e (inr u) = inl u.below
 
   pub cut_where : {R E : Type 0} (l h : ℤ) (old new : List (Entry V)) (r : Result R E) → OnOk r (IsRangeCut eq low high l h old new) → OnOk r (IsEdited eq low high (entry l h None) old new)
   cut_where l h old new (Ok x) p = cut_edit l h old new p
@@ -37,12 +42,12 @@ module _ {V : Type 0} (eq : V → V → Bool) (laws : IsEquivalence eq) (low hig
         (λ u. off k (holds_under e k u) (at_under e [] k u))
         (λ u. off k (holds_over e k u) (at_over e [] k u))));
     none = λ p. absurd (some_left done p);
-    kept = λ d i u. let parts = aside d done u in s.kept d (prior.kept d i parts.0) parts.1;
+    kept = λ d i u. let parts = apart d done u in s.kept d (prior.kept d i parts.0) parts.1;
   }
     where
-      aside : (d : Entry V) (xs : List (Entry (Option V))) → AreAside (xs ++ e ∷ []) d → AreAside xs d × IsAside e.lo e.hi d
-      aside d [] u = (tt, u.0)
-      aside d (x ∷ xs) u = let more = aside d xs u.1 in ((u.0, more.0), more.1)
+      apart : (d : Entry V) (xs : List (Entry (Option V))) → AreApartFrom eq (xs ++ e ∷ []) d → AreApartFrom eq xs d × IsApartFrom (option_eq eq) e (entry d.lo d.hi (Some d.value))
+      apart d [] u = (tt, u.0)
+      apart d (x ∷ xs) u = let more = apart d xs u.1 in ((u.0, more.0), more.1)
 
       off : (k : ℤ) → holds e k ≡ Bool.false → at (e ∷ []) k ≡ None → SameOption eq (cond (holds e k) e.value (at next k)) (answer_or (option_or (at done k) (at (e ∷ []) k)) (at old k))
       off k p q = same_along eq
@@ -82,14 +87,14 @@ module _ {V : Type 0} (eq : V → V → Bool) (laws : IsEquivalence eq) (low hig
   pub edits_wider : (l h : ℤ) (edits : List (Entry (Option V))) → low ≤ℤ l → h ≤ℤ high → IsRangeMap (option_eq eq) l h edits → IsRangeMap (option_eq eq) low high edits
   edits_wider l h edits u v r = record { runs = r.runs; keys = keys_wider l h edits u v r.keys }
 
-  -- an entry that the keys from l to h are aside of is so of each edit on these keys
-  all_aside : (l h : ℤ) (edits : List (Entry (Option V))) (e : Entry V) → AreKeys l h edits → IsAside l h e → AreAside edits e
-  all_aside l h [] e k u = tt
-  all_aside l h (d ∷ edits) e k u = (one u, all_aside l h edits e k.2 u)
-    where
-      one : IsAside l h e → IsAside d.lo d.hi e
-      one (inl u) = inl (omega (arith, ints, k.1))
-      one (inr u) = inr (omega (arith, ints, k.0))
+  -- a key outside the range keeps its value, since no edit has it
+  outside_edits : (l h k : ℤ) (edits : List (Entry (Option V))) (old new : List (Entry V)) → AreKeys l h edits → (k <ℤ l) ⊎ (h <ℤ k) → SameOption eq (at new k) (updated edits (at old) k) → SameOption eq (at new k) (at old k)
+  outside_edits l h k edits old new keys (inl u) s = same_along eq refl (ap (λ o. answer_or o (at old k)) (below_all l h edits k keys u)) s
+  outside_edits l h k edits old new keys (inr u) s = same_along eq refl (ap (λ o. answer_or o (at old k)) (above_all l h edits k keys u)) s
+
+  keys_first : (l h : ℤ) (done rest : List (Entry (Option V))) → AreKeys l h (done ++ rest) → AreKeys l h done
+  keys_first l h [] rest k = tt
+  keys_first l h (d ∷ done) rest k = (k.0, k.1, keys_first l h done rest k.2)
 
   -- ---- what a map has once a function's answers are brought into it
 
@@ -100,7 +105,8 @@ module _ {V : Type 0} (eq : V → V → Bool) (laws : IsEquivalence eq) (low hig
       asked = a.asked;
       range_map = d.range_map;
       content = λ k. same_trans eq laws (at new k) (updated edits (at old) k) (updated a.answers (at old) k) (d.content k) (a.content k);
-      kept = λ e i u. d.kept e i (all_aside l h edits e a.range_map.keys u);
+      outside = λ k u. outside_edits l h k edits old new a.range_map.keys u (d.content k);
+      kept = λ e i u. d.kept e i (a.apart e i u);
       same = λ s. d.none (a.same s);
     }
 
@@ -112,9 +118,10 @@ module _ {V : Type 0} (eq : V → V → Bool) (laws : IsEquivalence eq) (low hig
           answers = a.answers;
           asked = a.asked;
           last = last.last;
-          is_end = last.is_end a.answers (ends_of p.done p.rest (subst (AreEndsOf a.answers) p.parts a.ends));
+          is_end = last.is_end (changes eq a.asked.pieces a.answers) (ends_of p.done p.rest (subst (AreEndsOf (changes eq a.asked.pieces a.answers)) p.parts a.ends));
           range_map = p.edited.range_map;
-          kept = λ e i u. p.edited.kept e i (aside_first p.done p.rest e (subst (λ es. AreAside es e) p.parts (all_aside l h edits e a.range_map.keys u)));
+          outside = λ k u. outside_edits l h k p.done old new (keys_first l h p.done p.rest (subst (AreKeys l h) p.parts a.range_map.keys)) u (p.edited.content k);
+          kept = λ e i u. p.edited.kept e i (apart_first p.done p.rest e (subst (λ es. AreApartFrom eq es e) p.parts (a.apart e i u)));
           content = λ k. by_lt_z last.last k
               (λ u.
               let free = at_past (last.last +ℤ pos 1) k p.done last.below (omega (arith, ints)) in
@@ -131,11 +138,11 @@ module _ {V : Type 0} (eq : V → V → Bool) (laws : IsEquivalence eq) (low hig
               (a.content k)));
         }
       where
-        aside_first : (done rest : List (Entry (Option V))) (e : Entry V) → AreAside (done ++ rest) e → AreAside done e
-        aside_first [] rest e u = tt
-        aside_first (d ∷ done) rest e u = (u.0, aside_first done rest e u.1)
+        apart_first : (done rest : List (Entry (Option V))) (e : Entry V) → AreApartFrom eq (done ++ rest) e → AreApartFrom eq done e
+        apart_first [] rest e u = tt
+        apart_first (d ∷ done) rest e u = (u.0, apart_first done rest e u.1)
 
-        ends_of : (done rest : List (Entry (Option V))) → AreEndsOf a.answers (done ++ rest) → AreEndsOf a.answers done
+        ends_of : (done rest : List (Entry (Option V))) → AreEndsOf (changes eq a.asked.pieces a.answers) (done ++ rest) → AreEndsOf (changes eq a.asked.pieces a.answers) done
         ends_of [] rest e = tt
         ends_of (d ∷ done) rest e = (e.0, ends_of done rest e.1)
 
@@ -162,6 +169,7 @@ module _ {V : Type 0} (eq : V → V → Bool) (laws : IsEquivalence eq) (low hig
       };
       range_map = r;
       content = λ k. same_itself eq laws (at old k);
+      outside = λ k u. same_itself eq laws (at old k);
       kept = λ e i u. i;
       same = λ s. refl;
     }

@@ -1,5 +1,6 @@
 -- A function that was called at pieces, one after another: its answers, and the edits that bring them into a map.
-use Rattle.range_map_blaze.proofs.Words.{some_none, AllocError, ◌≡◌, ℤ, pos, ◌+ℤ◌, ◌-ℤ◌, ◌≤ℤ◌, Bool, true, false, cond, List, [], ◌∷◌, ◌++◌, length, map, Option, Some, None, Ok, refl, ◌∙◌, sym, ap, subst, arith, ints, IsEquivalence, options_equiv, Mut, FoldsTo, zip, option_eq, option_or, Result, same_along, same_back, same_itself, same_or_left, same_trans, or_assoc, or_none, IsCanonical, AreKeys, HasEnd, Entry, entry, at, SameEntries, SameOption, glue, IsBelow, are_keys_glue, IsAbove, IsAbove-from_apart, at_append, at_before, at_in, at_over, at_under, by_place, at_glue, below_glue, below_more, canonical_glue, at_past, values, entries_with_results, AnswersAtValue, SomeCallAtValue, option_same, AreEndsOf, ArePiecesAsked, IsPieceAsked, answer_or}
+use Rattle.range_map_blaze.proofs.Words.{some_none, AllocError, ◌≡◌, ℤ, pos, ◌+ℤ◌, ◌-ℤ◌, ◌≤ℤ◌, Bool, true, false, cond, List, [], ◌∷◌, ◌++◌, length, map, Option, Some, None, Ok, inl, inr, refl, ◌∙◌, sym, ap, subst, arith, ints, IsEquivalence, options_equiv, Mut, FoldsTo, zip, option_eq, option_or, Result, same_along, same_back, same_itself, same_or_left, same_trans, or_assoc, or_none, IsCanonical, AreKeys, HasEnd, Entry, entry, at, SameEntries, SameOption, glue, IsBelow, are_keys_glue, IsAbove, IsAbove-from_apart, at_append, at_before, at_in, at_over, at_under, by_place, at_glue, below_glue, below_more, canonical_glue, at_past, values, entries_with_results, AnswersAtValue, SomeCallAtValue, option_same, AreEndsOf, ArePiecesAsked, IsPieceAsked, answer_or, changes, AreApartFrom, IsApartFrom}
+use Rattle.blaze_entries.proofs.Paints.Splices.{by_join}
 
 -- a piece with its answer in place of what it has
 abbrev pub with_answer : {V : Type 0} → Entry (Option V) → Option V → Entry (Option V)
@@ -15,6 +16,22 @@ module _ {V : Type 0} (eq : V → V → Bool) (laws : IsEquivalence eq) where
 
   answer_next : (a b : Option (Option V)) (old : Option V) → a ≡ None → answer_or (option_or a b) old ≡ answer_or b old
   answer_next a b old p = ap (λ o. answer_or (option_or o b) old) p
+
+  -- two results that touch with equal values leave an entry alone as one
+  apart_joined : (d p e : Entry (Option V)) → e.lo ≤ℤ e.hi → d.lo ≤ℤ d.hi → p.lo ≤ℤ p.hi → p.lo ≡ d.hi +ℤ pos 1 → option_eq eq d.value p.value ≡ true
+      → IsApartFrom (option_eq eq) d e → IsApartFrom (option_eq eq) p e → IsApartFrom (option_eq eq) (entry d.lo p.hi d.value) e
+  apart_joined d p e w dw pw t v (inl a) (inl b) = inl (record { below = b.below; unequal = λ q. (options_equiv laws).congr d.value p.value e.value v ∙ b.unequal q })
+  apart_joined d p e w dw pw t v (inl a) (inr b) = absurd (omega (arith, ints, a.below, b.below))
+  apart_joined d p e w dw pw t v (inr a) b = inr (record { below = a.below; unequal = a.unequal })
+
+  -- what an entry is apart from, if it is apart from some edits and from one more
+  apart_glue : (e : Entry V) → e.lo ≤ℤ e.hi → (edits : List (Entry (Option V))) (p : Entry (Option V)) → IsCanonical (option_eq eq) edits → p.lo ≤ℤ p.hi
+      → AreApartFrom eq edits e → IsApartFrom (option_eq eq) p (entry e.lo e.hi (Some e.value)) → AreApartFrom eq (glue (option_eq eq) edits (p ∷ [])) e
+  apart_glue e w [] p c o a b = (b, tt)
+  apart_glue e w (d ∷ []) p c o a b = by_join (option_eq eq) d p []
+      (λ t v q. rw q (apart_joined d p (entry e.lo e.hi (Some e.value)) w c.0 o t v a.0 b, tt))
+      (λ n q. rw q (a.0, (b, tt)))
+  apart_glue e w (d ∷ f ∷ fs) p c o a b = (a.0, apart_glue e w (f ∷ fs) p c.2 o a.1 b)
 
   ends_glue : (answers edits : List (Entry (Option V))) (p : Entry (Option V)) → AreEndsOf answers edits → HasEnd answers p.hi → AreEndsOf answers (glue (option_eq eq) edits (p ∷ []))
   ends_glue answers [] p e h = (h, tt)
@@ -126,11 +143,12 @@ module _ {F A V : Type 0} (shows : A → Option V) (g : Mut F A (Result (Option 
       next_content has false p k = put k
 
     -- the edits of pieces: what is left of them is known
-    pub record AreMade (edits new answers : List (Entry (Option V))) : Type 0 where
+    pub record AreMade (pieces edits new answers : List (Entry (Option V))) : Type 0 where
       pub canonical : IsCanonical same new
       pub keys : AreKeys low high new
       pub content : (k : ℤ) → SameOption eq (answer_or (at new k) (old k)) (with_rest edits answers k)
-      pub ends : (all : List (Entry (Option V))) → AreEndsOf all edits → AreEndsOf all answers → AreEndsOf all new
+      pub ends : (all : List (Entry (Option V))) → AreEndsOf all edits → AreEndsOf all (changes eq pieces answers) → AreEndsOf all new
+      pub apart : (e : Entry V) → e.lo ≤ℤ e.hi → AreApartFrom eq edits e → AreApartFrom eq (changes eq pieces answers) e → AreApartFrom eq new e
 
     none_answered : (xs : List (Entry (Option V))) (rs : List (Option V)) (k : ℤ) → at xs k ≡ None → at (entries_with_results xs rs) k ≡ None
     none_answered [] rs k p = refl
@@ -141,12 +159,13 @@ module _ {F A V : Type 0} (shows : A → Option V) (g : Mut F A (Result (Option 
         (λ u. at_over (with_answer x r) (entries_with_results xs rs) k u ∙ none_answered xs rs k (sym (at_over x xs k u) ∙ p))
 
     pub made : (xs : List (Entry (Option V))) (b : ℤ) (f f' : F) (edits new : List (Entry (Option V))) (p : ArePiecesAsked shows g eq xs f f' edits new)
-        → IsCanonical same xs → AreKeys low high xs → IsAbove (b -ℤ pos 1) xs → Has old xs → AreBelow b edits → AreMade edits new (answers_at xs f f' edits new p)
+        → IsCanonical same xs → AreKeys low high xs → IsAbove (b -ℤ pos 1) xs → Has old xs → AreBelow b edits → AreMade xs edits new (answers_at xs f f' edits new p)
     made [] b f f' edits new p c keys above has a = record {
       canonical = subst (IsCanonical same) (sym p.1) a.canonical;
       keys = subst (AreKeys low high) (sym p.1) a.keys;
       content = λ k. same_along eq (ap (λ es. answer_or (at es k) (old k)) (sym p.1)) (ap (λ o. answer_or o (old k)) (sym (or_none (at edits k)))) (same_itself eq laws (answer_or (at edits k) (old k)));
       ends = λ all e h. subst (AreEndsOf all) (sym p.1) e;
+      apart = λ e w u h. subst (λ es. AreApartFrom eq es e) (sym p.1) u;
     }
     made (x ∷ xs) b f f' edits new p c keys above has a =
         let w = p.2.answer in
@@ -162,9 +181,13 @@ module _ {F A V : Type 0} (shows : A → Option V) (g : Mut F A (Result (Option 
               let step = next_content x w edits rest here c.0 nothing (λ j l u. has j x.value (at_in x xs j l u)) (option_eq eq w x.value) refl k in
               same_trans eq laws (answer_or (at new k) (old k)) (with_rest p.1 rest k) (with_rest edits (with_answer x w ∷ rest) k) (more.content k)
               (subst (λ es. SameOption eq (with_rest es rest k) (with_rest edits (with_answer x w ∷ rest) k)) (sym p.2.put) step);
-          ends = λ all e h. more.ends all (subst (AreEndsOf all) (sym p.2.put) (ends_next all (option_eq eq w x.value) e h.0)) h.1;
+          ends = λ all e h. let next_ends = ends_next all rest_changes (option_eq eq w x.value) e h in more.ends all (subst (AreEndsOf all) (sym p.2.put) next_ends.0) next_ends.1;
+          apart = λ e o u h. let next_apart = apart_next e o rest_changes (option_eq eq w x.value) u h in more.apart e o (subst (λ es. AreApartFrom eq es e) (sym p.2.put) next_apart.0) next_apart.1;
         }
       where
+        rest_changes : List (Entry (Option V))
+        rest_changes = changes eq xs (answers_at xs p.0 f' p.1 new p.3)
+
         above_right : IsAbove x.hi xs → IsAbove (x.hi +ℤ pos 1 -ℤ pos 1) xs
         above_right u = above_as xs u
           where
@@ -181,6 +204,10 @@ module _ {F A V : Type 0} (shows : A → Option V) (g : Mut F A (Result (Option 
             none_is_not : {X : Type 0} {x : X} → None ≡ Some x → ⊥
             none_is_not p = cc
 
-        ends_next : (all : List (Entry (Option V))) (b : Bool) → AreEndsOf all edits → HasEnd all x.hi → AreEndsOf all (cond b edits (glue same edits (with_answer x p.2.answer ∷ [])))
-        ends_next all true e h = e
-        ends_next all false e h = ends_glue eq laws all edits (with_answer x p.2.answer) e h
+        ends_next : (all cs : List (Entry (Option V))) (b : Bool) → AreEndsOf all edits → AreEndsOf all (cond b cs (with_answer x p.2.answer ∷ cs)) → AreEndsOf all (cond b edits (glue same edits (with_answer x p.2.answer ∷ []))) × AreEndsOf all cs
+        ends_next all cs true e h = (e, h)
+        ends_next all cs false e h = (ends_glue eq laws all edits (with_answer x p.2.answer) e h.0, h.1)
+
+        apart_next : (e : Entry V) → e.lo ≤ℤ e.hi → (cs : List (Entry (Option V))) (b : Bool) → AreApartFrom eq edits e → AreApartFrom eq (cond b cs (with_answer x p.2.answer ∷ cs)) e → AreApartFrom eq (cond b edits (glue same edits (with_answer x p.2.answer ∷ []))) e × AreApartFrom eq cs e
+        apart_next e o cs true u h = (u, h)
+        apart_next e o cs false u h = (apart_glue eq laws e o edits (with_answer x p.2.answer) a.canonical c.0 u h.0, h.1)

@@ -1,10 +1,11 @@
 -- The pieces of a range, as a walk over the entries meets them, and the edits that a function's answers at all of them give.
-use Rattle.range_map_blaze.proofs.Words.{AllocError, ◌≡◌, ℤ, pos, ◌+ℤ◌, ◌-ℤ◌, ◌≤ℤ◌, ◌<ℤ◌, Bool, true, false, cond, List, [], ◌∷◌, ◌++◌, map, Option, Some, None, Ok, Err, OnOk, Result, refl, ◌∙◌, sym, ap, subst, append_assoc, append-nil, arith, inl, ints, map-append, same_Some, IsEquivalence, options_equiv, Mut, int_lt, int_le, int_max, int_min, option_eq, option_or, IsRangeMap, HasEnd, left_with_right, Entry, entry, at, SameOption, after, above_low, at_in, by_place, canonical, one_per_run, canonical_after, canonical_before, above_after, ending_from, values, TakesValue, none_before, filled_entries, IsFilledWithNone, gap_before, lt_true, lt_holds, lt_fails, le_holds, fill_made, no_gap, AreEdits, AreEndsOf, AreEntriesAsked, ArePiecesAsked, IsPieceAsked, answer_or, updated, IsCallableAtPieces, within}
+use Rattle.range_map_blaze.proofs.Words.{AllocError, ◌≡◌, ℤ, pos, ◌+ℤ◌, ◌-ℤ◌, ◌≤ℤ◌, ◌<ℤ◌, Bool, true, false, cond, List, [], ◌∷◌, ◌++◌, map, Option, Some, None, Ok, Err, OnOk, Result, refl, ◌∙◌, sym, ap, subst, append_assoc, append-nil, arith, inl, ints, map-append, same_Some, IsEquivalence, options_equiv, Mut, int_lt, int_le, int_max, int_min, option_eq, option_or, IsRangeMap, HasEnd, left_with_right, Entry, entry, at, SameOption, after, above_low, at_in, by_place, canonical, one_per_run, canonical_after, canonical_before, above_after, ending_from, values, TakesValue, none_before, filled_entries, IsFilledWithNone, gap_before, lt_true, lt_holds, lt_fails, le_holds, fill_made, no_gap, AreEdits, AreEndsOf, AreEntriesAsked, ArePiecesAsked, IsPieceAsked, answer_or, updated, IsCallableAtPieces, within, AnswersAtValue, FoldsTo, zip, entries_with_results, SameEntries, length, AreKeys, AreAnswersAtPieces, AreApartFrom, changes, walked_run, KeepsValue, KeepsValues, IsCanonical}
 use Rattle.blaze_int.proofs.Comparisons.{le_fails}
 use Rattle.blaze_streams.proofs.GapLists.{gap_there}
 use Rattle.range_map_blaze.proofs.GapsWithin.{keys_between}
 use Rattle.range_map_blaze.proofs.JoinedKeys.{below_all, above_all}
 use Rattle.range_map_blaze.proofs.Paints.Following.{content_within, onward_next, whole_first, within_next, within_over, IsOnward}
+use Rattle.range_map_blaze.proofs.Paints.LeftAlone.{has_key}
 use Rattle.range_map_blaze.proofs.Edits.Asked.{asked_one, asked_then, some_calls, results, results_count, results_turns, answers_at, no_edit, made, AreBelow, Has}
 
 -- ---- what the result of a test says
@@ -71,11 +72,50 @@ abbrev pub piece_of : {V : Type 0} → Entry V → Entry (Option V)
 piece_of e = entry e.lo e.hi (Some e.value)
 
 module _ {F A V : Type 0} (shows : A → Option V) (g : Mut F A (Result (Option V) AllocError)) (eq : V → V → Bool) (laws : IsEquivalence eq) (l h : ℤ) (f : F) (old : List (Entry V)) where
+  -- what is true of the function's state and the value at each piece, after the calls at the pieces before
+  abbrev pub AtEachPiece : (F → Option V → Type 0) → Type 0
+  AtEachPiece P = (all done more : List (Entry (Option V))) (next : Entry (Option V)) → IsFilledWithNone eq l h old all → all ≡ done ++ next ∷ more
+      → (f' : F) (edits new : List (Entry (Option V))) → ArePiecesAsked shows g eq done f f' edits new → P f' next.value
+
   -- the function may be called at the next piece
-  pub takes_piece : IsCallableAtPieces shows g eq l h f old → (all done more : List (Entry (Option V))) (next : Entry (Option V)) → IsFilledWithNone eq l h old all → all ≡ done ++ next ∷ more
-      → (f' : F) (edits new : List (Entry (Option V))) → ArePiecesAsked shows g eq done f f' edits new → TakesValue shows g f' next.value
+  pub takes_piece : IsCallableAtPieces shows g eq l h f old → AtEachPiece (TakesValue shows g)
   takes_piece may all done more next is parts f' edits new asked =
       (may.at all is).at (values done) (values more) next.value f' (ap values parts ∙ map-append (λ e. e.value) done (next ∷ more)) (some_calls shows g eq done f f' edits new asked)
+
+  -- if the function returns the old value at each key, it does at the next piece
+  key_of : (all done more : List (Entry (Option V))) (next : Entry (Option V)) → AreKeys l h (done ++ next ∷ more) → (l ≤ℤ next.lo) × (next.hi ≤ℤ h)
+  key_of all [] more next keys = (keys.0, keys.1)
+  key_of all (d ∷ done) more next keys = key_of all done more next keys.2
+
+  kept_value : KeepsValues shows g eq l h old → (all done more : List (Entry (Option V))) (next : Entry (Option V)) → IsFilledWithNone eq l h old all → all ≡ done ++ next ∷ more → KeepsValue shows g eq next.value
+  kept_value keeps all done more next is parts =
+      let run = walked_run (option_eq eq) (options_equiv laws) l h all is.range_map done more next parts in
+      let keys = key_of all done more next (subst (AreKeys l h) parts is.range_map.keys) in
+      let below : next.lo ≤ℤ h = omega (arith, ints, run.order, keys.1) in
+      let value : next.value ≡ at old next.lo = same_Some next.value (at old next.lo) (sym (run.value next.lo (omega (arith, ints)) run.order) ∙ is.content next.lo keys.0 below) in
+      subst (KeepsValue shows g eq) (sym value) (keeps next.lo keys.0 below)
+
+  pub keeps_piece : KeepsValues shows g eq l h old → AtEachPiece (λ f' v. KeepsValue shows g eq v)
+  keeps_piece keeps all done more next is parts f' edits new asked = kept_value keeps all done more next is parts
+
+  -- then each result equals the old value
+  abbrev oks : List (Option V) → List (Result (Option V) AllocError)
+  oks rs = map Ok rs
+
+  steady_turns : (all done more : List (Entry (Option V))) (results : List (Option V)) (f' last : F) → KeepsValues shows g eq l h old → IsFilledWithNone eq l h old all → all ≡ done ++ more → length (oks results) ≡ length (values more)
+      → FoldsTo (λ j c k. AnswersAtValue shows g j c.0 c.1 k) f' (zip (values more) (oks results)) last → SameEntries (option_eq eq) (entries_with_results more results) more
+  steady_turns all done [] results f' last keeps is parts count calls = tt
+  steady_turns all done (p ∷ more) [] f' last keeps is parts count calls = absurd (omega (arith, count))
+  steady_turns all done (p ∷ more) (x ∷ results) f' last keeps is parts count calls = (
+    refl,
+    refl,
+    kept_value keeps all done more p is parts f' calls.0 (Ok x) calls.1,
+    steady_turns all (done ++ p ∷ []) more results calls.0 last keeps is (parts ∙ sym (append_assoc done (p ∷ []) more)) (omega (arith, count)) calls.2,
+  )
+
+  pub steady_answers : (answers : List (Entry (Option V))) (a : AreAnswersAtPieces shows g eq l h f old answers) → KeepsValues shows g eq l h old → SameEntries (option_eq eq) answers a.pieces
+  steady_answers answers a keeps =
+      subst (λ es. SameEntries (option_eq eq) es a.pieces) (sym a.answers_are) (steady_turns a.pieces [] a.pieces a.results f a.in_turn.last keeps a.are_pieces refl a.in_turn.count a.in_turn.calls)
 
   -- ---- one entry after another
 
@@ -92,17 +132,17 @@ module _ {F A V : Type 0} (shows : A → Option V) (g : Mut F A (Result (Option 
     all_is : all ≡ u.done ++ (none_before n e.lo ++ more)
     all_is = sym u.parts ∙ ap (λ es. u.done ++ filled_entries n h es) is
 
-    pub takes_gap : IsCallableAtPieces shows g eq l h f old → IsFilledWithNone eq l h old all → n <ℤ e.lo → TakesValue shows g f' None
-    takes_gap may filled w =
-        takes_piece may all u.done more (entry n (e.lo -ℤ pos 1) None) filled (all_is ∙ ap (λ G. u.done ++ (map (λ d. entry d.lo d.hi None) G ++ more)) (there w)) f' edits new u.asked
+    pub at_gap : (P : F → Option V → Type 0) → AtEachPiece P → IsFilledWithNone eq l h old all → n <ℤ e.lo → P f' None
+    at_gap P each filled w =
+        each all u.done more (entry n (e.lo -ℤ pos 1) None) filled (all_is ∙ ap (λ G. u.done ++ (map (λ d. entry d.lo d.hi None) G ++ more)) (there w)) f' edits new u.asked
       where
         there : n <ℤ e.lo → gap_before n e.lo ≡ entry n (e.lo -ℤ pos 1) tt ∷ []
         there w = ap (λ b. cond b (entry n (e.lo -ℤ pos 1) tt ∷ []) []) (lt_true n e.lo w)
 
     module _ (f'' : F) (mid : List (Entry (Option V))) (gap : ArePiecesAsked shows g eq (none_before n e.lo) f' f'' new mid) where
-      pub takes_entry : IsCallableAtPieces shows g eq l h f old → IsFilledWithNone eq l h old all → TakesValue shows g f'' (Some e.value)
-      takes_entry may filled =
-          takes_piece may all (u.done ++ none_before n e.lo) (filled_entries (e.hi +ℤ pos 1) h others) (piece_of e) filled (all_is ∙ sym (append_assoc u.done (none_before n e.lo) more)) f'' edits mid
+      pub at_entry : (P : F → Option V → Type 0) → AtEachPiece P → IsFilledWithNone eq l h old all → P f'' (Some e.value)
+      at_entry P each filled =
+          each all (u.done ++ none_before n e.lo) (filled_entries (e.hi +ℤ pos 1) h others) (piece_of e) filled (all_is ∙ sym (append_assoc u.done (none_before n e.lo) more)) f'' edits mid
           (asked_then shows g eq u.done (none_before n e.lo) f f' f'' edits new mid u.asked gap)
 
       pub underway_more : (f''' : F) (next : List (Entry (Option V))) → IsPieceAsked shows g eq (piece_of e) f'' f''' mid next → IsUnderway all (e.hi +ℤ pos 1) others f''' edits next
@@ -157,12 +197,12 @@ module _ {F A V : Type 0} (shows : A → Option V) (g : Mut F A (Result (Option 
         next_is : within l h left ≡ entry a b e.value ∷ within l h rest
         next_is = next_piece eq l h a b left rest e is walk.onward w under starts ends
 
-        pub walk_takes_gap : IsCallableAtPieces shows g eq l h f old → n <ℤ a → TakesValue shows g f' None
-        walk_takes_gap may = takes_gap (pieces l h old) n (within l h left) (within l h rest) (entry a b e.value) f' edits new walk.asked next_is may (are_pieces eq laws low high l h old r w)
+        pub walk_at_gap : (P : F → Option V → Type 0) → AtEachPiece P → n <ℤ a → P f' None
+        walk_at_gap P each = at_gap (pieces l h old) n (within l h left) (within l h rest) (entry a b e.value) f' edits new walk.asked next_is P each (are_pieces eq laws low high l h old r w)
 
         module _ (f'' : F) (mid : List (Entry (Option V))) (gap : ArePiecesAsked shows g eq (none_before n a) f' f'' new mid) where
-          pub walk_takes_entry : IsCallableAtPieces shows g eq l h f old → TakesValue shows g f'' (Some e.value)
-          walk_takes_entry may = takes_entry (pieces l h old) n (within l h left) (within l h rest) (entry a b e.value) f' edits new walk.asked next_is f'' mid gap may (are_pieces eq laws low high l h old r w)
+          pub walk_at_entry : (P : F → Option V → Type 0) → AtEachPiece P → P f'' (Some e.value)
+          walk_at_entry P each = at_entry (pieces l h old) n (within l h left) (within l h rest) (entry a b e.value) f' edits new walk.asked next_is f'' mid gap P each (are_pieces eq laws low high l h old r w)
 
           pub walk_more : (m : ℤ) (f''' : F) (next : List (Entry (Option V))) → m ≡ b +ℤ pos 1 → IsPieceAsked shows g eq (entry a b (Some e.value)) f'' f''' mid next → IsWalked m rest f''' edits next
           walk_more m f''' next is_next here = record {
@@ -176,9 +216,9 @@ module _ {F A V : Type 0} (shows : A → Option V) (g : Mut F A (Result (Option 
   pub all_asked : (n : ℤ) (f' f'' : F) (edits mid new : List (Entry (Option V))) (a : AreEntriesAsked shows g eq l h old n f f' edits mid) → ArePiecesAsked shows g eq (none_before n (h +ℤ pos 1)) f' f'' mid new → ArePiecesAsked shows g eq (a.pieces ++ none_before n (h +ℤ pos 1)) f f'' edits new
   all_asked n f' f'' edits mid new a gap = asked_then shows g eq a.pieces (none_before n (h +ℤ pos 1)) f f' f'' edits mid new a.asked gap
 
-  pub takes_last : IsCallableAtPieces shows g eq l h f old → (n : ℤ) (f' : F) (edits mid : List (Entry (Option V))) → AreEntriesAsked shows g eq l h old n f f' edits mid → n <ℤ (h +ℤ pos 1) → TakesValue shows g f' None
-  takes_last may n f' edits mid a w =
-      takes_piece may (a.pieces ++ none_before n (h +ℤ pos 1)) a.pieces [] (entry n (h +ℤ pos 1 -ℤ pos 1) None) a.are_pieces (ap (λ G. a.pieces ++ map (λ d. entry d.lo d.hi None) G) (there w)) f' edits mid a.asked
+  pub at_last : (P : F → Option V → Type 0) → AtEachPiece P → (n : ℤ) (f' : F) (edits mid : List (Entry (Option V))) → AreEntriesAsked shows g eq l h old n f f' edits mid → n <ℤ (h +ℤ pos 1) → P f' None
+  at_last P each n f' edits mid a w =
+      each (a.pieces ++ none_before n (h +ℤ pos 1)) a.pieces [] (entry n (h +ℤ pos 1 -ℤ pos 1) None) a.are_pieces (ap (λ G. a.pieces ++ map (λ d. entry d.lo d.hi None) G) (there w)) f' edits mid a.asked
     where
       there : n <ℤ (h +ℤ pos 1) → gap_before n (h +ℤ pos 1) ≡ entry n (h +ℤ pos 1 -ℤ pos 1) tt ∷ []
       there w = ap (λ b. cond b (entry n (h +ℤ pos 1 -ℤ pos 1) tt ∷ []) []) (lt_true n (h +ℤ pos 1) w)
@@ -205,11 +245,12 @@ module _ {F A V : Type 0} (shows : A → Option V) (g : Mut F A (Result (Option 
   nothing_below b edits p = subst (AreBelow shows g eq laws l h (at old) b) (sym p) (record { canonical = tt; keys = tt; below = tt })
 
   -- the edits of all pieces
-  pub edits_made : (all : List (Entry (Option V))) (f' : F) (edits new : List (Entry (Option V))) → IsFilledWithNone eq l h old all → edits ≡ [] → (p : ArePiecesAsked shows g eq all f f' edits new) → AreEdits shows g eq l h f old new
-  edits_made all f' edits new is none p =
+  pub edits_made : IsCanonical eq old → (all : List (Entry (Option V))) (f' : F) (edits new : List (Entry (Option V))) → IsFilledWithNone eq l h old all → edits ≡ [] → (p : ArePiecesAsked shows g eq all f f' edits new) → AreEdits shows g eq l h f old new
+  edits_made whole all f' edits new is none p =
       let eqo = option_eq eq in
       let c = canonical eqo (options_equiv laws) all is.range_map.runs in
       let m = made shows g eq laws l h (at old) all l f f' edits new p c is.range_map.keys (above_low l h all is.range_map.keys) (has_old all is) (nothing_below l edits none) in
+      let changed_pieces : List (Entry (Option V)) = changes eq all (answers_at shows g eq all f f' edits new p) in
       record {
         answers = answers_at shows g eq all f f' edits new p;
         asked = record {
@@ -221,6 +262,7 @@ module _ {F A V : Type 0} (shows : A → Option V) (g : Mut F A (Result (Option 
         };
         range_map = record { runs = one_per_run eqo (options_equiv laws) new m.canonical; keys = m.keys };
         content = λ k. subst (λ xs. SameOption eq (updated new (at old) k) (answer_or (option_or (at xs k) (at (answers_at shows g eq all f f' edits new p) k)) (at old k))) none (m.content k);
-        ends = m.ends (answers_at shows g eq all f f' edits new p) (subst (AreEndsOf (answers_at shows g eq all f f' edits new p)) (sym none) tt) (ends_itself (answers_at shows g eq all f f' edits new p));
+        ends = m.ends changed_pieces (subst (AreEndsOf changed_pieces) (sym none) tt) (ends_itself changed_pieces);
+        apart = λ e i u. m.apart e (has_key eq old e whole i) (subst (λ es. AreApartFrom eq es e) (sym none) tt) u;
         same = λ s. no_edit shows g eq all f f' edits new p s ∙ none;
       }

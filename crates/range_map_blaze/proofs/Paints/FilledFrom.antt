@@ -1,5 +1,5 @@
 -- One map's entries filled into the gaps of another.
-use Rattle.range_map_blaze.proofs.Words.{option_or, ◌≡◌, ℤ, pos, ◌-ℤ◌, ◌<ℤ◌, Bool, true, false, cond, List, [], ◌∷◌, ◌++◌, Option, Some, None, refl, ◌∙◌, sym, ap, subst, arith, inr, Result, Ok, Err, OnOk, IsSome, IsEquivalence, Contains, ints, same_along, same_back, same_itself, same_trans, same_or, or_none, or_assoc, Entry, entry, at, holds, SameOption, IsCanonical, IsRangeMap, IsRunStart, filled_content, IsFilled, above_low, at_append, canonical, start_along, unique, run_start_as, all_kept, are_kept, kept_further, value_in, over_in, IsFilledFrom, FillingIsUnion, IsFilledSomewhere, IsUnion}
+use Rattle.range_map_blaze.proofs.Words.{option_or, ◌≡◌, ℤ, pos, ◌-ℤ◌, ◌<ℤ◌, Bool, true, false, cond, List, [], ◌∷◌, ◌++◌, Option, Some, None, refl, ◌∙◌, sym, ap, subst, arith, inr, Result, Ok, Err, OnOk, IsSome, IsEquivalence, Contains, ints, same_along, same_back, same_itself, same_trans, same_or, or_none, or_assoc, Entry, entry, at, holds, SameOption, IsCanonical, IsRangeMap, IsRunStart, filled_content, fill_inside, fill_held, fill_outside, IsFilled, chosen, above_low, at_append, canonical, start_along, unique, run_start_as, all_kept, are_kept, kept_further, value_in, over_in, IsFilledFrom, FillingIsUnion, IsFilledSomewhere, IsUnion}
 use Rattle.range_map_blaze.proofs.Paints.Nowhere.{no_key}
 use Rattle.range_map_blaze.proofs.Paints.PaintedOver.{turned}
 use Rattle.range_map_blaze.proofs.Unions.{union_of}
@@ -15,9 +15,15 @@ module _ {V : Type 0} (eq : V → V → Bool) (laws : IsEquivalence eq) (low hig
   pub filled_nowhere : (p : Entry V) (es : List (Entry V)) → p.hi <ℤ p.lo → IsRangeMap eq low high es → IsFilled eq low high p es es
   filled_nowhere p es w r = record {
     range_map = r;
-    content = λ k. same_along eq {a = at es k} refl (sym (ap (λ b. option_or (at es k) (cond b (Some p.value) None)) (no_key p.lo p.hi k w) ∙ or_none (at es k))) (same_itself eq laws (at es k));
+    content = content;
+    inside = fill_inside eq p es es content;
+    held = fill_held eq p es es content;
+    outside = fill_outside eq p es es content;
     kept = all_kept eq (filled_content p.lo p.hi p.value (at es)) es;
   }
+    where
+      content : (k : ℤ) → SameOption eq (at es k) (filled_content p.lo p.hi p.value (at es) k)
+      content k = same_along eq {a = at es k} refl (sym (ap (λ b. option_or (at es k) (cond b (Some p.value) None)) (no_key p.lo p.hi k w) ∙ or_none (at es k))) (same_itself eq laws (at es k))
 
   grown : (a b c d : Option V) → SameOption eq a b → IsSome b → SameOption eq (option_or a c) (option_or b d)
   grown (Some x) (Some y) c d s i = s
@@ -75,10 +81,7 @@ module _ {V : Type 0} (eq : V → V → Bool) (laws : IsEquivalence eq) (low hig
 
     -- all entries of a range map: its union with the old list over it
     pub union_under : (left new : List (Entry V)) → IsRangeMap eq low high left → IsRangeMap eq low high old → IsFilledFrom eq low high left old new → IsUnion eq low high left old new
-    union_under left new l r u = union_of eq laws low high left old new l r (record {
-      range_map = u.range_map;
-      content = λ k. same_along eq {a = at new k} refl (turned (at old k) (at left k)) (u.content k);
-    })
+    union_under left new l r u = union_of eq laws low high left old new l r (chosen u.range_map (λ k. same_along eq {a = at new k} refl (turned (at old k) (at left k)) (u.content k)))
 
   -- the content that filling gives is that of the union, and a canonical list is the only one with its content
   pub filling_is_union : FillingIsUnion eq low high

@@ -1,5 +1,5 @@
 -- The entries on the keys of a range, as a walk meets them.
-use Rattle.range_map_blaze.proofs.Words.{◌≡◌, ℤ, pos, ◌+ℤ◌, ◌-ℤ◌, ◌≤ℤ◌, ◌<ℤ◌, Bool, true, cond, List, [], ◌∷◌, ◌++◌, None, refl, ◌∙◌, sym, ap, subst, arith, append_assoc, append-nil, IsEquivalence, ints, by_lt_z, map-append, lt_true, lt_false, max_right, same_itself, IsCanonical, IsRangeMap, left_with_right, IsChosen, ending_from, Entry, entry, at, shown_entry, SameEntries, SameOption, shown_list, int_max, int_min, before, after, IsCopied, before_none, are_keys_before, are_keys_after, IsAbove-from_apart, at_before, at_in, at_under, at_over, by_place, above_by, canonical, one_per_run, after_all, ending_takes, ending_skips, ending_all, after_skips, after_keeps, before_keeps, before_cuts, by_after, canonical_after, canonical_before, above_after, at-after_over, at-before_over, at-before_under, one_range, within}
+use Rattle.range_map_blaze.proofs.Words.{◌≡◌, ℤ, pos, ◌+ℤ◌, ◌-ℤ◌, ◌≤ℤ◌, ◌<ℤ◌, Bool, true, cond, List, [], ◌∷◌, ◌++◌, None, refl, ◌∙◌, sym, ap, subst, arith, append_assoc, append-nil, IsEquivalence, ints, by_lt_z, map-append, lt_true, lt_false, max_right, same_itself, IsCanonical, IsRangeMap, left_with_right, IsChosen, ending_from, Entry, entry, at, shown_entry, SameEntries, SameOption, shown_list, int_max, int_min, before, after, IsCopied, before_none, are_keys_before, are_keys_after, IsAbove-from_apart, at_before, at_in, at_under, at_over, by_place, above_by, canonical, one_per_run, after_all, ending_takes, ending_skips, ending_all, after_skips, after_keeps, before_keeps, before_cuts, by_after, canonical_after, canonical_before, above_after, at-after_over, at-before_over, at-before_under, one_range, within, chosen}
 use Rattle.range_map_blaze.proofs.Choices.{chosen_as}
 
 pub by_earlier : {P : Type 0} (a b : ℤ) → (a ≤ℤ b → int_min b a ≡ a → P) → (b <ℤ a → int_min b a ≡ b → P) → P
@@ -107,15 +107,12 @@ module _ {V : Type 0} (eq : V → V → Bool) where
     within_chosen r =
         let c = canonical eq laws es r.runs in
         let d = canonical_after eq (l -ℤ pos 1) es c in
-        record {
-          range_map = record {
-            runs = one_per_run eq laws (within l h es) (canonical_before eq (h +ℤ pos 1) (after (l -ℤ pos 1) es) d);
-            keys = are_keys_before eq low high (h +ℤ pos 1) (after (l -ℤ pos 1) es) (are_keys_after eq low high (l -ℤ pos 1) es r.keys);
-          };
-          content = λ k.
-              let chosen = left_with_right (at es k) (at (one_range l h) k) in
-              subst (λ x. SameOption eq x chosen) (sym (content_within k c d)) (same_itself eq laws chosen);
-        }
+        chosen (record {
+          runs = one_per_run eq laws (within l h es) (canonical_before eq (h +ℤ pos 1) (after (l -ℤ pos 1) es) d);
+          keys = are_keys_before eq low high (h +ℤ pos 1) (after (l -ℤ pos 1) es) (are_keys_after eq low high (l -ℤ pos 1) es r.keys);
+        }) (λ k.
+        let chosen = left_with_right (at es k) (at (one_range l h) k) in
+        subst (λ x. SameOption eq x chosen) (sym (content_within k c d)) (same_itself eq laws chosen))
 
     pub clones_chosen : (clones : List (Entry V)) → IsRangeMap eq low high es → SameEntries eq (within l h es) clones → IsChosen eq low high left_with_right es (one_range l h) clones
     clones_chosen clones r s = chosen_as eq laws low high left_with_right es (one_range l h) (within l h es) clones (within_chosen r) s

@@ -1,5 +1,5 @@
 -- Pairs painted one by one.
-use Rattle.range_map_blaze.proofs.Words.{◌≡◌, ℤ, ◌≤ℤ◌, ◌<ℤ◌, Bool, true, false, ◌&&◌, cond, List, [], ◌∷◌, ◌++◌, map, Some, refl, ◌∙◌, sym, subst, arith, int_le, IsEquivalence, ints, map-append, same_itself, same_trans, Entry, at, holds, SameOption, IsRangeMap, IsInside, IsPainted, painted_content, ArePaintedInTurn, IsPairPainted}
+use Rattle.range_map_blaze.proofs.Words.{◌≡◌, ℤ, ◌≤ℤ◌, ◌<ℤ◌, Bool, true, false, ◌&&◌, cond, List, [], ◌∷◌, ◌++◌, map, Some, refl, ◌∙◌, sym, subst, arith, int_le, IsEquivalence, ints, map-append, same_itself, same_trans, Entry, at, holds, SameOption, IsRangeMap, IsInside, IsPainted, painted_content, painted_inside, painted_outside, ArePaintedInTurn, IsPairPainted}
 use Rattle.range_map_blaze.proofs.Paints.Insides.{inside_equal}
 use Rattle.range_map_blaze.proofs.Paints.LeftAlone.{alone_equal}
 use Rattle.range_map_blaze.proofs.Paints.Nowhere.{painted_nowhere}
@@ -16,7 +16,9 @@ module _ {V : Type 0} (eq : V → V → Bool) (laws : IsEquivalence eq) (low hig
   pair_alike p q old new i lo hi v = record {
     painted = record {
       range_map = i.painted.range_map;
-      content = λ k. same_trans eq laws (at new k) (painted_content q.lo q.hi q.value (at old) k) (painted_content p.lo p.hi p.value (at old) k) (i.painted.content k) (alike k);
+      content = content;
+      inside = painted_inside eq old new p content;
+      outside = painted_outside eq old new p content;
       few = i.painted.few;
       alone = i.painted.alone;
       kept = λ e m a. i.painted.kept e m (alone_equal eq laws e p q lo hi v a);
@@ -33,6 +35,9 @@ module _ {V : Type 0} (eq : V → V → Bool) (laws : IsEquivalence eq) (low hig
       alike k =
           let same : holds q k ≡ holds p k = λ i. int_le (lo i) k && int_le k (hi i) in
           subst (λ b. SameOption eq (cond b (Some q.value) (at old k)) (cond (holds p k) (Some p.value) (at old k))) (sym same) (either (holds p k) k)
+
+      content : (k : ℤ) → SameOption eq (at new k) (painted_content p.lo p.hi p.value (at old) k)
+      content k = same_trans eq laws (at new k) (painted_content q.lo q.hi q.value (at old) k) (painted_content p.lo p.hi p.value (at old) k) (i.painted.content k) (alike k)
 
   -- one pair more
   pub in_turn_more : (ps : List (Entry V)) (p : Entry V) (old cur new : List (Entry V)) → ArePaintedInTurn eq low high ps old cur → IsPairPainted eq low high p cur new → ArePaintedInTurn eq low high (ps ++ p ∷ []) old new

@@ -98,7 +98,8 @@ module _ {V : Type 0} (eq : V → V → Bool) where
       alone = λ e w a.
           let b = alone_parts eq u.others (n ∷ []) e a in
           let near = are_near p n j in
-          (alone_joined eq laws e p n w u.order q near.0 near.1 (u.alone e w b.0).0 b.1.0, tt);
+          let like : eq p.value n.value ≡ true = (and_parts _ _ j).1 in
+          (alone_joined eq laws e p n like w u.order q near.0 near.1 (u.alone e w b.0).0 b.1.0, tt);
       order = joined_order p.lo p.hi n.lo n.hi u.order q;
     }
 

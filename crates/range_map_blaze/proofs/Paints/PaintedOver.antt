@@ -1,5 +1,5 @@
 -- A range map's list painted over another.
-use Rattle.range_map_blaze.proofs.Words.{option_or, ◌≡◌, ℤ, Bool, true, false, cond, List, [], ◌∷◌, ◌++◌, Option, Some, None, refl, ◌∙◌, sym, ap, IsEquivalence, same_along, same_itself, same_trans, same_or, or_assoc, Entry, at, holds, IsCanonical, IsRangeMap, right_first, IsChosen, last_at, painted_in_order, IsAbove-from_apart, at_before, by_place, holds_under, holds_over, canonical, IsExtended}
+use Rattle.range_map_blaze.proofs.Words.{option_or, ◌≡◌, ℤ, Bool, true, false, cond, List, [], ◌∷◌, ◌++◌, Option, Some, None, refl, ◌∙◌, sym, ap, IsEquivalence, same_along, same_itself, same_trans, same_or, or_assoc, Entry, at, holds, IsCanonical, IsRangeMap, right_first, IsChosen, last_at, painted_in_order, IsAbove-from_apart, at_before, by_place, holds_under, holds_over, canonical, IsExtended, chosen}
 use Rattle.range_map_blaze.proofs.Paints.Paintings.{last_append}
 
 -- the value where the key is held, else what was there
@@ -30,19 +30,13 @@ turned (Some y) x = refl
 
 -- all of a range map's list painted
 pub painted_over : {V : Type 0} (eq : V → V → Bool) (laws : IsEquivalence eq) (low high : ℤ) (old over new : List (Entry V)) → IsRangeMap eq low high over → IsExtended eq low high over old new → IsChosen eq low high right_first old over new
-painted_over {V} eq laws low high old over new r s = record {
-  range_map = s.range_map;
-  content = λ k. same_along eq refl (ap (λ o. option_or o (at old k)) (last_is_first eq over k (canonical eq laws over r.runs)) ∙ turned (at over k) (at old k)) (s.content k);
-}
+painted_over {V} eq laws low high old over new r s = chosen s.range_map (λ k. same_along eq refl (ap (λ o. option_or o (at old k)) (last_is_first eq over k (canonical eq laws over r.runs)) ∙ turned (at over k) (at old k)) (s.content k))
 
 -- a first part painted, and then the rest put over
 pub painted_then : {V : Type 0} (eq : V → V → Bool) (laws : IsEquivalence eq) (low high : ℤ) (old done rest whole cur new : List (Entry V)) → whole ≡ done ++ rest → IsRangeMap eq low high whole → IsRangeMap eq low high rest
     → IsExtended eq low high done old cur → IsChosen eq low high right_first cur rest new → IsChosen eq low high right_first old whole new
-painted_then {V} eq laws low high old done rest whole cur new p w r s c = record {
-  range_map = c.range_map;
-  content = λ k. same_trans eq laws (at new k) (right_first (at cur k) (at rest k)) (right_first (at old k) (at whole k)) (c.content k)
-      (same_along eq (turned (at rest k) (at cur k)) (there k) (same_or eq (at rest k) (at rest k) (at cur k) (painted_in_order done (at old) k) (same_itself eq laws (at rest k)) (s.content k)));
-}
+painted_then {V} eq laws low high old done rest whole cur new p w r s c = chosen c.range_map (λ k. same_trans eq laws (at new k) (right_first (at cur k) (at rest k)) (right_first (at old k) (at whole k)) (c.content k)
+    (same_along eq (turned (at rest k) (at cur k)) (there k) (same_or eq (at rest k) (at rest k) (at cur k) (painted_in_order done (at old) k) (same_itself eq laws (at rest k)) (s.content k))))
   where
     there : (k : ℤ) → option_or (at rest k) (painted_in_order done (at old) k) ≡ right_first (at old k) (at whole k)
     there k =

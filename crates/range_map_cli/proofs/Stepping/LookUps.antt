@@ -1,6 +1,6 @@
 -- Look-ups of an entry or a gap, each behind the one before.
 use Rattle.range_map_cli.proofs.Words.{◌≡◌, ℤ, pos, ◌+ℤ◌, ◌-ℤ◌, ◌≤ℤ◌, ◌<ℤ◌, Bool, List, [], ◌∷◌, Option, Some, None, ◌∙◌, sym, ap, arith, ints, by_lt_z, IsEquivalence, same_along, IsRangeMap, Entry, entry, at, entry_at, holds_in, holds_ends, AreRangesOrGapsFrom, CoverFrom, IsRangeOrGapAt, LookUpsCover, IsSameFrom, IsGreatestPiece}
-use Rattle.range_map_cli.proofs.Stepping.EntryAt.{entry_holds, entry_starts, entry_ends, entry_keys, entry_value}
+use Rattle.blaze_entries.proofs.Canonical.EntryAt.{entry_holds, entry_starts, entry_ends, entry_keys, entry_value}
 
 module _ {V : Type 0} (eq : V → V → Bool) (laws : IsEquivalence eq) (low high : ℤ) (es : List (Entry V)) (map : IsRangeMap eq low high es) where
   -- what is there at a key: the piece round it, and its value

@@ -1,4 +1,4 @@
-use Rattle.range_map_blaze.proofs.Words.{if_err, ◌≡◌, [], ◌++◌, ◌∷◌, ◌∙◌, sym, ap, append-nil, append_assoc, subst, options_equiv, option_eq, nil_from_length, into_iter_items, IsCanonical, shown_entry, shown_list, canonical, counted_none, counted_then, AreEdited}
+use Rattle.range_map_blaze.proofs.Words.{List, if_err, ◌≡◌, [], ◌++◌, ◌∷◌, ◌∙◌, sym, ap, append-nil, append_assoc, subst, options_equiv, option_eq, nil_from_length, into_iter_items, IsCanonical, shown_entry, shown_list, canonical, counted_none, counted_then, AreEdited}
 use Rattle.range_map_blaze.proofs.Edits.Applied.{edited_none, edited_more}
 use Rattle.range_map_blaze.proofs.Paints.Insides.{with_key}
 use Rattle.range_map_blaze.proofs.map.RangeMapBlaze.apply_edits.Goals as goal
@@ -63,3 +63,15 @@ returns-clause-ok g c =
 
 pub returns-clause-counted : goal.returns-clause-counted
 returns-clause-counted g c = c.loop-start.invariant.2.3
+
+-- without edits no call is made
+pub returns-in_err-apply_edit-clause-none : goal.returns-in_err-apply_edit-clause-none
+returns-in_err-apply_edit-clause-none g c = λ none.
+    let rank = g.T.Integer.rank in
+    let i = c.loop-start.invariant.2 in
+    let parts = i.1 ∙ ap (λ xs. i.0 ++ shown_list rank xs) c.in-Some.ensures.steps.0 in
+    absurd (some_left i.0 _ _ (sym parts ∙ none))
+  where
+    some_left : {A : Type 0} (xs : List A) (x : A) (ys : List A) → xs ++ x ∷ ys ≡ [] → ⊥
+    some_left [] x ys p = cc
+    some_left (y ∷ xs) x ys p = cc

@@ -1,4 +1,4 @@
-use Rattle.range_map_blaze.proofs.Words.{rules, ◌≡◌, ℤ, ◌<ℤ◌, Bool, true, false, ◌&&◌, cond, List, None, refl, ◌∙◌, ap, sym, subst, arith, IsEquivalence, int_le, ints, by_lt_z, le_false, same_itself, IsRangeMap, IsRangeCut, Entry, at, SameOption}
+use Rattle.range_map_blaze.proofs.Words.{rules, ◌≡◌, ℤ, ◌<ℤ◌, Bool, true, false, ◌&&◌, cond, List, None, refl, ◌∙◌, ap, sym, subst, arith, IsEquivalence, int_le, ints, by_lt_z, le_false, same_itself, IsRangeMap, cut_range_at, cut_inside, cut_outside, IsRangeCut, Entry, at, SameOption}
 use Rattle.range_map_blaze.proofs.map.RangeMapBlaze.ranges_remove.Goals as goal
 
 never_equal : (a : Bool) → (a && false) ≡ false
@@ -15,9 +15,14 @@ module _ {V : Type 0} (eq : V → V → Bool) (laws : IsEquivalence eq) (low hig
   cut_nowhere : IsRangeMap eq low high es → IsRangeCut eq low high l h es es
   cut_nowhere r = record {
     range_map = r;
-    content = λ j. subst (SameOption eq (at es j)) (sym (ap (λ b. cond b None (at es j)) (off j))) (same_itself eq laws (at es j));
+    content = content;
+    inside = cut_inside eq es es l h content;
+    outside = cut_outside eq es es l h content;
     kept = λ e i u. i;
   }
+    where
+      content : (j : ℤ) → SameOption eq (at es j) (cut_range_at l h (at es) j)
+      content j = subst (SameOption eq (at es j)) (sym (ap (λ b. cond b None (at es j)) (off j))) (same_itself eq laws (at es j))
 
 pub returns-in-Some-clause-none : goal.returns-in-Some-clause-none
 returns-in-Some-clause-none g c = λ told below. let ends = c.in-Some.ensures.ranks told in absurd (omega (arith, ints, ends.0, ends.1, c.in-Some.ensures.order))

@@ -1,4 +1,4 @@
-use Rattle.range_map_blaze.proofs.Words.{◌≡◌, ◌⊎◌, ℤ, OnOk, OnErr, subst, arith, ints, shown_option, IsPartUpdated, IsUpdated}
+use Rattle.range_map_blaze.proofs.Words.{◌≡◌, ◌⊎◌, ℤ, OnOk, OnErr, subst, arith, ints, shown_option, IsPartUpdated, IsUpdated, KeepsValues, Ok}
 use Rattle.range_map_blaze.proofs.Edits.Applied.{updated_nowhere, updated_somewhere}
 use Rattle.range_map_blaze.proofs.map.RangeMapBlaze.ranges_update.Goals as goal
 
@@ -20,6 +20,10 @@ returns-in-Some-clause-err g c = λ told.
     (λ l h. OnErr c.update_between.result ((c.update_between.new.self.entries ≡ c.args.self.now.entries)
     ⊎ IsPartUpdated (λ a. shown_option (λ v. v.now) a.0) g.F.FnMut g.V.PartialEq.eq g.T.Integer.low g.T.Integer.high l h c.args.f c.args.self.now.entries c.update_between.new.self.entries))
     (c.in-Some.ensures.ranks told) c.update_between.ensures.err
+
+pub returns-in-Some-clause-steady : goal.returns-in-Some-clause-steady
+returns-in-Some-clause-steady g c = λ told.
+    with_ends (λ l h. KeepsValues (λ a. shown_option (λ v. v.now) a.0) g.F.FnMut g.V.PartialEq.eq l h c.args.self.now.entries → c.update_between.result ≡ Ok tt) (c.in-Some.ensures.ranks told) c.update_between.ensures.steady
 
 pub returns-in-Some-clause-none : goal.returns-in-Some-clause-none
 returns-in-Some-clause-none g c = λ told below. let ends = c.in-Some.ensures.ranks told in absurd (omega (arith, ints, ends.0, ends.1, c.in-Some.ensures.order))

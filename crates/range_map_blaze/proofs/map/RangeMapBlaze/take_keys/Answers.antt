@@ -1,7 +1,7 @@
 use Rattle.range_map_blaze.proofs.Words.{◌≡◌, arith, ◌∙◌, refl, sym, ap, subst, Ok, if_err, counted_none, CountedEntries, IsChosen, IsRangeCut, left_with_right, uncounted, one_range, AreKeysTaken}
 use Rattle.std.proofs.lemmas.Bool.{false≢true}
 use Rattle.blaze_table.specs.Work.{IsCountedCut, IsRefused}
-use Rattle.range_map_blaze.proofs.TakenBack.{nothing_taken}
+use Rattle.range_map_blaze.proofs.TakenBack.{keys_taken, nothing_taken}
 use Rattle.range_map_blaze.proofs.map.RangeMapBlaze.take_keys.Goals as goal
 
 -- no edit, as a cut
@@ -50,10 +50,9 @@ returns-clause-ok g c =
     let high = g.T.Integer.high in
     let l = g.T.Integer.rank c.args.start in
     let h = g.T.Integer.rank c.args.end in
-    record {
-      left_is = subst (λ (s : CountedEntries g.row.V.Denot). IsRangeCut eq low high l h s.entries c.cut_range.new.self.entries) c.self.view_is c.in_ok-cut_range.ensures.ok;
-      taken_is = subst (λ (s : CountedEntries g.row.V.Denot). IsChosen eq low high left_with_right c.args.self.now.entries (one_range l h) s.entries) (sym c.uncounted.ensures) c.in_ok-taken.ensures;
-    }
+    keys_taken eq g.met.V.Eq.laws low high l h c.args.self.now.entries _ _
+    (subst (λ (s : CountedEntries g.row.V.Denot). IsRangeCut eq low high l h s.entries c.cut_range.new.self.entries) c.self.view_is c.in_ok-cut_range.ensures.ok)
+    (subst (λ (s : CountedEntries g.row.V.Denot). IsChosen eq low high left_with_right c.args.self.now.entries (one_range l h) s.entries) (sym c.uncounted.ensures) c.in_ok-taken.ensures)
 
 pub returns-clause-uncounted : goal.returns-clause-uncounted
 returns-clause-uncounted g c = subst (λ (s : CountedEntries g.row.V.Denot). s ≡ uncounted s.entries) (sym c.uncounted.ensures) refl

@@ -1,5 +1,6 @@
 -- The entry of a list that holds a key.
-use Rattle.range_map_cli.proofs.Words.{◌≡◌, ℤ, ◌≤ℤ◌, List, [], ◌∷◌, true, false, Bool, cond, refl, sym, ap, ◌∙◌, subst, Option, Some, None, inl, inr, same_Some, Entry, at, entry_at, holds, IsDisjoint, HasStart, HasEnd, AreKeys, at_clear}
+use Rattle.blaze_entries.proofs.Words.{◌≡◌, ℤ, ◌≤ℤ◌, List, [], ◌∷◌, true, false, Bool, cond, refl, sym, ap, ◌∙◌, subst, Option, Some, None, inl, inr, same_Some, Entry, at, entry_at, holds, IsDisjoint, HasStart, HasEnd, AreKeys}
+use Rattle.blaze_entries.proofs.Canonical.Lookup.{at_clear}
 
 module _ {V : Type 0} where
   -- the entry is the first, which then holds the key, or it is one of the rest
