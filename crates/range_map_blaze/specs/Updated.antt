@@ -1,10 +1,10 @@
 -- A range changed by a function: the pieces at which it is called, and the map afterwards.
 use Rattle.std.specs.declared.alloc.AllocError.{AllocError}
 use Rattle.std.specs.Fn.{Mut}
-use Rattle.std.specs.List.{Contains}
+use Rattle.std.specs.List.{Contains, FoldsTo}
 use Rattle.std.specs.Option.{option_eq}
 use Rattle.std.specs.Prelude.{◌≡◌, ◌⊎◌, ℤ, ◌≤ℤ◌, ◌<ℤ◌, int_le, if◌then◌else◌, Bool, true, List, [], ◌∷◌, map, Option, Some, None, Result, Ok, Err}
-use Rattle.blaze_streams.specs.Answers.{values, entries_with_results, AnswersAtValue, AnswersInTurn, IsCallableAtEachValue}
+use Rattle.blaze_streams.specs.Answers.{values, entries_with_results, AnswersAtValue, AnswersInTurn, IsCallableAtEachValue, SomeCallAtValue}
 use Rattle.blaze_streams.specs.Fills.{IsFilledWithNone}
 use Rattle.blaze_entries.specs.Canonical.{IsRangeMap, HasEnd}
 use Rattle.blaze_entries.specs.Entries.{Entry, entry, at, SameEntries, SameOption}
@@ -41,13 +41,13 @@ IsSteady eq old (Err e) = ⊥
 
 -- `shows` gives the list's value that the arguments of a call stand for
 module _ {F A V : Type 0} (shows : A → Option V) (g : Mut F A (Result (Option V) AllocError)) (eq : V → V → Bool) where
-  -- each call of the function with this old value returns an equal one
-  abbrev pub KeepsValue : Option V → Type 0
-  KeepsValue old = (f f' : F) (r : Result (Option V) AllocError) → AnswersAtValue shows g f old r f' → IsSteady eq old r
+  -- each call of f with this old value returns an equal one
+  abbrev pub KeepsValue : F → Option V → Type 0
+  KeepsValue f old = (f' : F) (r : Result (Option V) AllocError) → AnswersAtValue shows g f old r f' → IsSteady eq old r
 
-  -- so does each call with what a key from l to h has
-  abbrev pub KeepsValues : ℤ → ℤ → List (Entry V) → Type 0
-  KeepsValues l h entries = (k : ℤ) → l ≤ℤ k → k ≤ℤ h → KeepsValue (at entries k)
+  -- so does each call with what a key from l to h has, in each state that calls of f can leave
+  abbrev pub KeepsValues : ℤ → ℤ → F → List (Entry V) → Type 0
+  KeepsValues l h f entries = (k : ℤ) → l ≤ℤ k → k ≤ℤ h → (before : List (Option V)) (f' : F) → FoldsTo (SomeCallAtValue shows g) f before f' → KeepsValue f' (at entries k)
 
   -- The pieces of the keys from l to h are the greatest ranges there on which the list does not change: its entries, cut to these
   -- keys, and its gaps. The function may be called at each of them in turn, in the state after the calls at those before.

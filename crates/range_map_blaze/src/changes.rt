@@ -45,9 +45,9 @@ impl<T: Integer, V: Eq + Clone> RangeMapBlaze<T, V> {
     /// Sets the value of every key in the range, replacing what was there: it paints the range. Returns whether the number of
     /// keys with a value changed.
     ///
-    /// If one entry with an equal value contains the whole range, nothing changes, not even the stored value. Entries that the
-    /// range does not touch keep their stored values. Bounds that name no key change nothing; a `RangeInclusive` that was
-    /// iterated to its end has such bounds.
+    /// If one entry with an equal value contains the whole range, nothing changes, not even the stored value. An entry without a
+    /// key of the range keeps its stored value, unless it touches the range and has an equal value. Bounds that name no key
+    /// change nothing; a `RangeInclusive` that was iterated to its end has such bounds.
     ///
     /// Does not allocate if nothing changes. If an allocation fails, the map is unchanged. O(log n) for each of the n entries
     /// that the range touches.

@@ -66,7 +66,7 @@ impl<T: Integer, V: Eq + Clone> RangeMapBlaze<T, V> {
         ensures steady { R.has_bounds range
             → KeepsValues (λ a. shown_option (λ v. v.now) a.0) F.FnMut V.eq
             (start_rank T.rank T.low (R.start_bound range))
-            (end_rank T.rank T.high (R.end_bound range)) self.old.entries
+            (end_rank T.rank T.high (R.end_bound range)) f self.old.entries
             → result ≡ Ok tt }
         ensures somewhere { IsUpdatedSomewhere (λ a. shown_option (λ v. v.now) a.0) F.FnMut V.eq
             T.low T.high f self.old.entries self.new.entries }
@@ -96,7 +96,7 @@ impl<T: Integer, V: Eq + Clone> RangeMapBlaze<T, V> {
             ⊎ IsPartUpdated (λ a. shown_option (λ v. v.now) a.0) F.FnMut V.eq T.low T.high
             (T.rank start) (T.rank end) f self.old.entries self.new.entries) }
         ensures steady { KeepsValues (λ a. shown_option (λ v. v.now) a.0) F.FnMut V.eq (T.rank start)
-            (T.rank end) self.old.entries → result ≡ Ok tt }
+            (T.rank end) f self.old.entries → result ≡ Ok tt }
         ensures counted { IsCounted self.old self.new }
     {
         start.in_hand();
@@ -118,7 +118,7 @@ impl<T: Integer, V: Eq + Clone> RangeMapBlaze<T, V> {
         ensures edits { IfOk result (λ edits. AreEdits (λ a. shown_option (λ v. v.now) a.0) F.FnMut
             V.eq (T.rank start) (T.rank end) f self.now.entries (shown_list T.rank edits.items)) }
         ensures steady { KeepsValues (λ a. shown_option (λ v. v.now) a.0) F.FnMut V.eq (T.rank start)
-            (T.rank end) self.now.entries → IsOk result }
+            (T.rank end) f self.now.entries → IsOk result }
     {
         edits_of(&self.table, start, end, f)
     }
@@ -144,7 +144,7 @@ impl<T: Integer, V: Eq + Clone, F: FnMut(Option<&V>) -> Result<Option<V>, AllocE
         ensures asked { OnOk result (IsPieceAsked (λ a. shown_option (λ v. v.now) a.0) F.FnMut V.eq
             (entry (T.rank start) (T.rank end) (shown_option (λ v. v.now) old.entry)) self.old.f self.new.f
             (shown_list T.rank self.old.edits.items) (shown_list T.rank self.new.edits.items)) }
-        ensures steady { KeepsValue (λ a. shown_option (λ v. v.now) a.0) F.FnMut V.eq
+        ensures steady { KeepsValue (λ a. shown_option (λ v. v.now) a.0) F.FnMut V.eq self.old.f
             (shown_option (λ v. v.now) old.entry) → result ≡ Ok tt }
     {
         let answer = (self.f)(old)?;
@@ -162,7 +162,8 @@ impl<T: Integer, V: Eq + Clone, F: FnMut(Option<&V>) -> Result<Option<V>, AllocE
             (none_before (rank_or_end T.rank T.high next) (T.rank start)) self.old.f self.new.f
             (shown_list T.rank self.old.edits.items) (shown_list T.rank self.new.edits.items)) }
         ensures steady { (rank_or_end T.rank T.high next <ℤ T.rank start
-            → KeepsValue (λ a. shown_option (λ v. v.now) a.0) F.FnMut V.eq None) → result ≡ Ok tt }
+            → KeepsValue (λ a. shown_option (λ v. v.now) a.0) F.FnMut V.eq self.old.f None)
+            → result ≡ Ok tt }
     {
         start.in_hand();
         if let Some(first) = next {
@@ -183,7 +184,8 @@ impl<T: Integer, V: Eq + Clone, F: FnMut(Option<&V>) -> Result<Option<V>, AllocE
             (none_before (rank_or_end T.rank T.high next) (T.rank end +ℤ pos 1)) self.old.f self.new.f
             (shown_list T.rank self.old.edits.items) (shown_list T.rank self.new.edits.items)) }
         ensures steady { (rank_or_end T.rank T.high next <ℤ (T.rank end +ℤ pos 1)
-            → KeepsValue (λ a. shown_option (λ v. v.now) a.0) F.FnMut V.eq None) → result ≡ Ok tt }
+            → KeepsValue (λ a. shown_option (λ v. v.now) a.0) F.FnMut V.eq self.old.f None)
+            → result ≡ Ok tt }
     {
         end.in_hand();
         if let Some(first) = next {
@@ -211,7 +213,7 @@ impl<T: Integer, V: Eq + Clone, F: FnMut(Option<&V>) -> Result<Option<V>, AllocE
             (rank_or_end T.rank T.high next) self.old.f self.new.f
             (shown_list T.rank self.old.edits.items) (shown_list T.rank self.new.edits.items)) }
         ensures steady { KeepsValues (λ a. shown_option (λ v. v.now) a.0) F.FnMut V.eq (T.rank start)
-            (T.rank end) table.now.entries → IsOk result }
+            (T.rank end) self.old.f table.now.entries → IsOk result }
     {
         table.in_hand();
         let mut next = Some(start);
@@ -252,7 +254,7 @@ fn edits_of<T: Integer, V: Eq + Clone, F: FnMut(Option<&V>) -> Result<Option<V>,
     ensures edits { IfOk result (λ edits. AreEdits (λ a. shown_option (λ v. v.now) a.0) F.FnMut V.eq
         (T.rank start) (T.rank end) f table.now.entries (shown_list T.rank edits.items)) }
     ensures steady { KeepsValues (λ a. shown_option (λ v. v.now) a.0) F.FnMut V.eq (T.rank start)
-        (T.rank end) table.now.entries → IsOk result }
+        (T.rank end) f table.now.entries → IsOk result }
 {
     table.in_hand();
     let mut asking = Asking {

@@ -1,8 +1,8 @@
 -- A range changed by a closure, where each call returns what a plain function gives and changes no capture.
 use Rattle.std.specs.declared.alloc.AllocError.{AllocError}
-use Rattle.std.proofs.Common.{◌≡◌, ◌⊎◌, ℕ, zero, suc, ℤ, pos, negsuc, ◌-ℤ◌, ◌<ℤ◌, Bool, true, false, ◌&&◌, cond, List, [], ◌∷◌, length, map, Option, None, Result, Ok, Err, OnOk, OnErr, MatchResult, refl, ◌∙◌, sym, ap, subst, arith, nat_eq, inl, inr, w32, to_z, of_z}
+use Rattle.std.proofs.Common.{◌≡◌, ◌⊎◌, ◌<◌, ◌≤◌, ℕ, zero, suc, ℤ, pos, negsuc, ◌-ℤ◌, ◌≤ℤ◌, ◌<ℤ◌, Bool, true, false, ◌&&◌, cond, List, [], ◌∷◌, length, map, Option, Some, None, Result, Ok, Err, OnOk, OnErr, MatchResult, refl, ◌∙◌, sym, ap, subst, arith, nat_eq, inl, inr, w32, to_z, of_z}
 use Rattle.std.proofs.lemmas.Int.{ints, by_lt_z}
-use Rattle.std.specs.Prelude.{int_le}
+use Rattle.std.specs.Prelude.{int_le, ◌↔◌}
 use Rattle.blaze_int.proofs.Comparisons.{le_true, le_false}
 use Rattle.blaze_entries.proofs.Alike.{same_along, same_itself}
 use Rattle.blaze_entries.specs.Canonical.{IsRangeMap, HasEnd}
@@ -13,12 +13,12 @@ use Rattle.std.specs.List.{FoldsTo, zip}
 use Rattle.std.specs.Option.{option_eq}
 use Rattle.blaze_entries.specs.Entries.{Entry, entry, at, SameEntries, SameOption}
 use Rattle.blaze_entries.proofs.Paints.Painted.{entries_themselves}
-use Rattle.blaze_streams.specs.Answers.{values, entries_with_results, AnswersAtValue}
+use Rattle.blaze_streams.specs.Answers.{values, entries_with_results, AnswersAtValue, SomeCallAtValue}
 use Rattle.range_map_blaze.specs.UpdateLaws.{changed, AreGivenBy}
-use Rattle.range_map_blaze.specs.Updated.{AreAnswersAtPieces, IsPartUpdated, IsUpdated}
+use Rattle.range_map_blaze.specs.Updated.{changes, AreAnswersAtPieces, IsPartUpdated, IsSteady, IsUpdated, KeepsValues}
 use Rattle.range_map_blaze.proofs.Edits.ByKeys.{updating_is_by_keys, part_updating_is_by_keys}
-use Rattle.range_map_c.specs.Combined.{IsCombined, IsEndOfPiece, IsPartCombined}
-use Rattle.range_map_c.specs.Status.{OnDone}
+use Rattle.range_map_c.specs.Combined.{combined, IsCombined, IsEndOfPiece, IsPartCombined, LeavesAll}
+use Rattle.range_map_c.specs.Status.{IsStatus, OnDone, OnRefused}
 
 module _ {F A : Type 0} (shows : A → Option ℕ) (g : Mut F A (Result (Option ℕ) AllocError)) (change : Option ℕ → Option ℕ) (f : F)
     (says : (a : A) (w : Result (Option ℕ) AllocError) (f' : F) → Called g f a w f' → (w ≡ Ok (change (shows a))) × (f' ≡ f)) where
@@ -48,6 +48,17 @@ module _ {F A : Type 0} (shows : A → Option ℕ) (g : Mut F A (Result (Option 
         let given : List (Entry (Option ℕ)) = map (λ p. entry p.lo p.hi (change p.value)) a.pieces in
         subst (λ es. SameEntries (option_eq nat_eq) es given) (sym (given_by answers a)) (entries_themselves (option_eq nat_eq) (options_equiv nat_eq_equiv) given)
 
+    -- a change is one of the results
+    end_of_change : (pieces answers : List (Entry (Option ℕ))) (k : ℤ) → HasEnd (changes nat_eq pieces answers) k → HasEnd answers k
+    end_of_change [] answers k e = absurd e
+    end_of_change (p ∷ pieces) [] k e = absurd e
+    end_of_change (p ∷ pieces) (a ∷ answers) k e = by_test (option_eq nat_eq a.value p.value) e (end_of_change pieces answers k)
+      where
+        by_test : (b : Bool) → HasEnd (cond b (changes nat_eq pieces answers) (a ∷ changes nat_eq pieces answers)) k → (HasEnd (changes nat_eq pieces answers) k → HasEnd answers k) → HasEnd (a ∷ answers) k
+        by_test true e rest = inr (rest e)
+        by_test false (inl is) rest = inl is
+        by_test false (inr e) rest = inr (rest e)
+
     end_of_piece : (pieces : List (Entry (Option ℕ))) (k : ℤ) → HasEnd (map (λ p. entry p.lo p.hi (change p.value)) pieces) k → HasEnd pieces k
     end_of_piece [] k e = e
     end_of_piece (p ∷ pieces) k (inl is) = inl is
@@ -68,12 +79,12 @@ module _ {F A : Type 0} (shows : A → Option ℕ) (g : Mut F A (Result (Option 
         content = part_updating_is_by_keys shows g nat_eq nat_eq_equiv low high l h f old new change u (same_given u.answers u.asked);
       }
         where
-          by_side : (u.last <ℤ l) ⊎ HasEnd u.answers u.last → (u.last <ℤ l) ⊎ IsEndOfPiece l h u.last old
+          by_side : (u.last <ℤ l) ⊎ HasEnd (changes nat_eq u.asked.pieces u.answers) u.last → (u.last <ℤ l) ⊎ IsEndOfPiece l h u.last old
           by_side (inl below) = inl below
           by_side (inr e) = inr (record {
             pieces = u.asked.pieces;
             are_pieces = u.asked.are_pieces;
-            is_end = end_of_piece u.asked.pieces u.last (subst (λ es. HasEnd es u.last) (given_by u.answers u.asked) e);
+            is_end = end_of_piece u.asked.pieces u.last (subst (λ es. HasEnd es u.last) (given_by u.answers u.asked) (end_of_change u.asked.pieces u.answers u.last e));
           })
 
 -- ---- where nothing changes
@@ -122,6 +133,34 @@ module _ (low high l h : ℤ) (change : Option ℕ → Option ℕ) (old new : Li
         (λ u. ap (λ b. cond b (changed l h change (at old) k) (at old k)) (le_true k (l -ℤ pos 1) u) ∙ under k (omega (arith, ints, u))));
   }
 
+-- ---- a change that leaves all as it is
+
+module _ {F A : Type 0} (shows : A → Option ℕ) (g : Mut F A (Result (Option ℕ) AllocError)) (change : Option ℕ → Option ℕ) (f : F)
+    (says : (a : A) (w : Result (Option ℕ) AllocError) (f' : F) → Called g f a w f' → (w ≡ Ok (change (shows a))) × (f' ≡ f)) where
+  abbrev done : Option ℕ → Result (Option ℕ) AllocError
+  done r = Ok r
+
+  -- no call changes the function's state
+  stays : (before : List (Option ℕ)) (f' : F) → FoldsTo (SomeCallAtValue shows g) f before f' → f' ≡ f
+  stays [] f' calls = sym calls
+  stays (v ∷ before) f' calls =
+      let same = (says calls.1.1.arguments calls.1.0 calls.0 calls.1.1.called).1 in
+      stays before f' (subst (λ j. FoldsTo (SomeCallAtValue shows g) j before f') same calls.2)
+
+  pub leaves_keeps : (l h start end : ℤ) → start ≡ l → end ≡ h → (old : List (Entry ℕ)) → LeavesAll l h change old → KeepsValues shows g nat_eq start end f old
+  unfolding LeavesAll
+  leaves_keeps l h start end starts ends old leaves k from to before f' calls f'' r asked =
+      let said = says asked.arguments r f'' (subst (λ j. Called g j asked.arguments r f'') (stays before f' calls) asked.called) in
+      let kept = leaves k (omega (arith, ints, starts, from)) (omega (arith, ints, ends, to)) in
+      subst (IsSteady nat_eq (at old k)) (sym (said.0 ∙ ap (λ o. done (change o)) asked.shown ∙ ap done kept)) ((options_equiv nat_eq_equiv).refl (at old k))
+
+-- without entries, each key gets a value
+pub leaves_none : (op v : ℕ) (l h : ℤ) (es : List (Entry ℕ)) → l ≤ℤ h → es ≡ [] → LeavesAll l h (combined op 0 v) es → ⊥
+unfolding LeavesAll
+leaves_none op v l h es order none leaves =
+    let is : Some v ≡ None = subst (λ xs. combined op 0 v (at xs l) ≡ at xs l) none (leaves l (omega (arith, ints)) order) in
+    cc
+
 -- ---- by what the call returned, at a range whose ends are l and h
 
 module _ {F A : Type 0} (shows : A → Option ℕ) (g : Mut F A (Result (Option ℕ) AllocError)) (change : Option ℕ → Option ℕ) (f : F)
@@ -154,3 +193,32 @@ module _ (low high l h start end : ℤ) (starts : start ≡ l) (ends : end ≡ h
       → OnDone (to_z w32 (of_z w32 s)) (IsCombined low high l h change old new)
   done_by (Ok u) s is p = subst (λ x. OnDone (to_z w32 (of_z w32 x)) (IsCombined low high l h change old new)) (sym is) (at_ends p)
   done_by (Err e) s is p = subst (λ x. OnDone (to_z w32 (of_z w32 x)) (IsCombined low high l h change old new)) (sym is) tt
+
+-- ---- statuses
+
+-- a status of a call with valid numbers is not 6
+pub never_invalid : {P : Type 0} (s : ℤ) → IsStatus s → s ≡ pos 6 → P
+never_invalid s (inl done) six = absurd (omega (arith, ints, done, six))
+never_invalid s (inr refused) six = absurd (omega (arith, ints, refused, six))
+
+pub valid_iff : (s : ℤ) (op place : ℕ) → IsStatus s → op ≤ 6 → place ≤ 1 → (s ≡ pos 6 ↔ ((6 < op) ⊎ (1 < place)))
+valid_iff s op place status few one = (never_invalid s status, λ large. absurd (too_large large))
+  where
+    too_large : (6 < op) ⊎ (1 < place) → ⊥
+    too_large (inl u) = omega arith
+    too_large (inr u) = omega arith
+
+-- a call that succeeded has status 0
+pub done_status : (r : Result (Unit {0}) AllocError) (s : ℤ) → MatchResult r (λ _. s ≡ pos 0) (λ _. s ≡ pos 1) → r ≡ Ok tt → to_z w32 (of_z w32 s) ≡ pos 0
+done_status (Ok u) s is same = ap (λ z. to_z w32 (of_z w32 z)) is
+done_status (Err e) s is same = absurd (cc)
+
+pub leaves_along : (op v place place' : ℕ) (l l' h h' : ℤ) (es es' : List (Entry ℕ)) → l ≡ l' → h ≡ h' → place ≡ place' → es ≡ es' → LeavesAll l h (combined op place v) es → LeavesAll l' h' (combined op place' v) es'
+leaves_along op v place place' l l' h h' es es' a b c d leaves =
+    subst (LeavesAll l' h' (combined op place' v)) d
+    (subst (λ p. LeavesAll l' h' (combined op p v) es) c (subst (λ z. LeavesAll l' z (combined op place v) es) b (subst (λ z. LeavesAll z h (combined op place v) es) a leaves)))
+
+pub refused_again : (low high l h start end : ℤ) (starts : start ≡ l) (ends : end ≡ h) (change : Option ℕ → Option ℕ) (old new : List (Entry ℕ)) (s : ℤ)
+    → OnRefused s (IsPartCombined low high start end change old new) → OnRefused s (IsPartCombined low high l h change old new)
+refused_again low high l h start end starts ends change old new s p =
+    subst (λ a. OnRefused s (IsPartCombined low high a h change old new)) starts (subst (λ b. OnRefused s (IsPartCombined low high start b change old new)) ends p)

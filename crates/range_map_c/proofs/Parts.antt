@@ -15,7 +15,7 @@ use Rattle.range_map_blaze.proofs.Unions.{union_of}
 use Rattle.range_map_c.specs.Handle.{least_key, greatest_key}
 use Rattle.range_map_c.specs.Status.{IsStatus, OnRefused}
 use Rattle.range_map_c.specs.Tables.{rows, AreRowsPainted, IsPartPainted}
-use Rattle.range_map_c.proofs.Tells.{same_is}
+use Rattle.blaze_entries.proofs.Plain.{same_is}
 
 pub none_painted : (old : List (Entry ℕ)) → IsRangeMap nat_eq least_key greatest_key old → AreRowsPainted least_key greatest_key [] old old
 none_painted old r = record { range_map = r; content = λ k. same_itself nat_eq nat_eq_equiv (at old k) }

@@ -12,7 +12,7 @@ use Rattle.range_map_blaze.specs.Union.{IsUnion}
 use Rattle.range_map_c.specs.Handle.{least_key, greatest_key}
 use Rattle.range_map_c.specs.Tables.{rows, AreRowsPainted}
 use Rattle.range_map_c.proofs.InOrder.{length-rows}
-use Rattle.range_map_c.proofs.Tells.{same_is}
+use Rattle.blaze_entries.proofs.Plain.{same_is}
 
 or_none : {V : Type 0} (o : Option V) → option_or o None ≡ o
 or_none None = refl

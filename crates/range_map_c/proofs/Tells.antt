@@ -1,17 +1,16 @@
 -- What a call tells by what a call of the map gave.
-use Rattle.std.specs.Prelude.{◌≡◌, ℕ, ℤ, Bool, List, [], Option, Some, None, MatchOption, nat_eq}
-use Rattle.std.proofs.Common.{refl, ap, sym, subst, ◌∙◌}
-use Rattle.std.proofs.lemmas.Bool.{eqb-true}
+use Rattle.std.specs.Prelude.{◌≡◌, ◌↔◌, IsTrue, not, pos, ℕ, ℤ, Bool, List, [], Option, Some, None, MatchOption, nat_eq}
+use Rattle.std.proofs.Common.{refl, ap, sym, subst, ◌∙◌, rules, arith}
+use Rattle.std.proofs.lemmas.Int.{ints}
+use Rattle.blaze_entries.proofs.Plain.{same_is}
 use Rattle.blaze_entries.specs.Entries.{Entry, at, SameOption}
 use Rattle.blaze_table.specs.Gap.{IsGap}
 use Rattle.range_map_c.specs.Handle.{least_key, greatest_key}
 use Rattle.range_map_c.specs.Told.{told}
 
-pub same_is : (a b : Option ℕ) → SameOption nat_eq a b → b ≡ a
-same_is None None s = refl
-same_is None (Some y) s = absurd s
-same_is (Some x) None s = absurd s
-same_is (Some x) (Some y) s = ap (λ n. Some n) (sym (eqb-true x y s))
+-- two lengths differ exactly if the numbers of keys do
+pub differs_by : (a b : ℕ) (x y : ℤ) → pos a ≡ x → pos b ≡ y → IsTrue (not (nat_eq a b)) ↔ (¬ (x ≡ y))
+differs_by a b x y p q = subst (λ z. IsTrue (not (nat_eq a b)) ↔ (¬ (z ≡ y))) p (subst (λ z. IsTrue (not (nat_eq a b)) ↔ (¬ (pos a ≡ z))) q (first_of (search rules, grind (arith, ints))))
 
 -- a value is told that equals the one that was there
 pub told_same : (there : Bool) (v : ℕ) (answer was : Option ℕ) → told there v ≡ answer → SameOption nat_eq was answer → told there v ≡ was

@@ -14,6 +14,7 @@ use Rattle.blaze_entries.specs.Painted.{IsInside, last_at}
 use Rattle.blaze_entries.proofs.Alike.{one_value, same_itself, same_back, same_along}
 use Rattle.blaze_entries.proofs.Canonical.Lookup.{IsAbove-from_apart, by_place, entry_in, entry_under, entry_over, holds_ends, at_over}
 use Rattle.blaze_entries.proofs.Canonical.Runs.{canonical, one_per_run}
+use Rattle.blaze_entries.proofs.Plain.{chosen}
 use Rattle.blaze_table.specs.Gap.{IsClearFrom}
 use Rattle.blaze_table.proofs.Paints.Inside.{inside_above, inside_at}
 use Rattle.range_map_blaze.specs.Extended.{AreInside}
@@ -85,9 +86,9 @@ module _ {V : Type 0} (eq : V → V → Bool) (laws : IsEquivalence eq) (es : Li
   here p k (inl none) t = let w = holds_ends p k t in absurd (omega (arith, ints, w.0, w.1))
   here p k (inr i) t = let w = holds_ends p k t in inside_at eq p.lo p.hi p.value es k c i w.0 w.1
 
-  chosen : (a x o : Option V) → SameOption eq a (option_or x a) → SameOption eq a (option_or o a) → SameOption eq a (option_or (option_or o x) a)
-  chosen a x None s t = s
-  chosen a x (Some y) s t = t
+  either_same : (a x o : Option V) → SameOption eq a (option_or x a) → SameOption eq a (option_or o a) → SameOption eq a (option_or (option_or o x) a)
+  either_same a x None s t = s
+  either_same a x (Some y) s t = t
 
   one : (a : Option V) (v : V) (b : Bool) → SameOption eq a a → (b ≡ true → SameOption eq a (Some v)) → SameOption eq a (option_or (cond b (Some v) None) a)
   one a v true s t = t refl
@@ -97,7 +98,7 @@ module _ {V : Type 0} (eq : V → V → Bool) (laws : IsEquivalence eq) (es : Li
   pub last_inside : (ps : List (Entry V)) (k : ℤ) → AreInside eq ps es → SameOption eq (at es k) (option_or (last_at ps k) (at es k))
   last_inside [] k i = same_itself eq laws (at es k)
   last_inside (p ∷ ps) k i =
-      chosen (at es k) (cond (holds p k) (Some p.value) None) (last_at ps k) (one (at es k) p.value (holds p k) (same_itself eq laws (at es k)) (here p k i.0)) (last_inside ps k i.1)
+      either_same (at es k) (cond (holds p k) (Some p.value) None) (last_at ps k) (one (at es k) p.value (holds p k) (same_itself eq laws (at es k)) (here p k i.0)) (last_inside ps k i.1)
 
 -- ---- calls that change nothing
 

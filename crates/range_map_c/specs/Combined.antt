@@ -1,5 +1,5 @@
 -- A range whose values are combined with one value by an operation.
-use Rattle.std.specs.Prelude.{◌⊎◌, ℕ, ℤ, ◌+◌, ◌%◌, ◌^◌, ◌==◌, ◌<ℤ◌, int_le, if◌then◌else◌, min, max, bit_and, bit_or, bit_xor, List, Option, Some, None, nat_eq}
+use Rattle.std.specs.Prelude.{◌≡◌, ◌⊎◌, ℕ, ℤ, ◌≤ℤ◌, ◌+◌, ◌%◌, ◌^◌, ◌==◌, ◌<ℤ◌, int_le, if◌then◌else◌, min, max, bit_and, bit_or, bit_xor, List, Option, Some, None, nat_eq}
 use Rattle.blaze_entries.specs.Entries.{Entry, at, SameOption}
 use Rattle.blaze_entries.specs.Canonical.{IsRangeMap, HasEnd}
 use Rattle.blaze_streams.specs.Fills.{IsFilledWithNone}
@@ -21,6 +21,10 @@ operated op old v =
 abbrev pub combined : ℕ → ℕ → ℕ → Option ℕ → Option ℕ
 combined op place v None = if place == 0 then Some v else None
 combined op place v (Some old) = Some (operated op old v)
+
+-- the change leaves the value of each key from l to h as it is
+unfoldable pub LeavesAll : ℤ → ℤ → (Option ℕ → Option ℕ) → List (Entry ℕ) → Type 0
+LeavesAll l h change entries = (k : ℤ) → l ≤ℤ k → k ≤ℤ h → change (at entries k) ≡ at entries k
 
 -- The keys from l to h are in pieces, the longest ranges there on which the list does not change: its entries, cut to these keys, and
 -- its gaps. One of them ends at k.

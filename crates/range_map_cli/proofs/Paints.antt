@@ -1,6 +1,7 @@
 -- Maps that were painted in several ways to the same content are equal.
 use Rattle.range_map_cli.proofs.Words.{option_or, ◌≡◌, ℤ, ◌≤ℤ◌, ◌<ℤ◌, Bool, true, false, cond, List, [], ◌∷◌, map, Option, Some, None, refl, ◌∙◌, sym, ap, subst, arith, ints, by_lt_z, IsEquivalence, signed_Decides, int_eq, same_along, same_itself, same_trans, same_or_right, or_assoc, IsRangeMap, right_first, IsChosen, below_at, from_at, Entry, entry, at, holds, SameEntries, SameOption, last_at, painted_in_order, value_at, IsAscendingPairs, painted_one, canonical_is_unique, pairs_are_content, canonical, ranked_pairs, last_is_first, painted_over, turned, points_of, AppendUndoesSplit, AreAllPainted, UnionIsPainting}
 use Rattle.range_map_cli.proofs.Stepping.Stepped.{same_back}
+use Rattle.blaze_entries.proofs.Plain.{chosen}
 
 -- ---- points
 

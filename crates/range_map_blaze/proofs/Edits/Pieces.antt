@@ -1,5 +1,5 @@
 -- The pieces of a range, as a walk over the entries meets them, and the edits that a function's answers at all of them give.
-use Rattle.range_map_blaze.proofs.Words.{AllocError, ◌≡◌, ℤ, pos, ◌+ℤ◌, ◌-ℤ◌, ◌≤ℤ◌, ◌<ℤ◌, Bool, true, false, cond, List, [], ◌∷◌, ◌++◌, map, Option, Some, None, Ok, Err, OnOk, Result, refl, ◌∙◌, sym, ap, subst, append_assoc, append-nil, arith, inl, ints, map-append, same_Some, IsEquivalence, options_equiv, Mut, int_lt, int_le, int_max, int_min, option_eq, option_or, IsRangeMap, HasEnd, left_with_right, Entry, entry, at, SameOption, after, above_low, at_in, by_place, canonical, one_per_run, canonical_after, canonical_before, above_after, ending_from, values, TakesValue, none_before, filled_entries, IsFilledWithNone, gap_before, lt_true, lt_holds, lt_fails, le_holds, fill_made, no_gap, AreEdits, AreEndsOf, AreEntriesAsked, ArePiecesAsked, IsPieceAsked, answer_or, updated, IsCallableAtPieces, within, AnswersAtValue, FoldsTo, zip, entries_with_results, SameEntries, length, AreKeys, AreAnswersAtPieces, AreApartFrom, changes, walked_run, KeepsValue, KeepsValues, IsCanonical}
+use Rattle.range_map_blaze.proofs.Words.{AllocError, ◌≡◌, ℤ, pos, ◌+ℤ◌, ◌-ℤ◌, ◌≤ℤ◌, ◌<ℤ◌, Bool, true, false, cond, List, [], ◌∷◌, ◌++◌, map, Option, Some, None, Ok, Err, OnOk, Result, refl, ◌∙◌, sym, ap, subst, append_assoc, append-nil, arith, inl, ints, map-append, same_Some, IsEquivalence, options_equiv, Mut, int_lt, int_le, int_max, int_min, option_eq, option_or, IsRangeMap, HasEnd, left_with_right, Entry, entry, at, SameOption, after, above_low, at_in, by_place, canonical, one_per_run, canonical_after, canonical_before, above_after, ending_from, values, TakesValue, none_before, filled_entries, IsFilledWithNone, gap_before, lt_true, lt_holds, lt_fails, le_holds, fill_made, no_gap, AreEdits, AreEndsOf, AreEntriesAsked, ArePiecesAsked, IsPieceAsked, answer_or, updated, IsCallableAtPieces, within, AnswersAtValue, FoldsTo, zip, entries_with_results, SameEntries, length, AreKeys, AreAnswersAtPieces, AreApartFrom, changes, walked_run, KeepsValue, KeepsValues, IsCanonical, SomeCallAtValue}
 use Rattle.blaze_int.proofs.Comparisons.{le_fails}
 use Rattle.blaze_streams.proofs.GapLists.{gap_there}
 use Rattle.range_map_blaze.proofs.GapsWithin.{keys_between}
@@ -87,33 +87,37 @@ module _ {F A V : Type 0} (shows : A → Option V) (g : Mut F A (Result (Option 
   key_of all [] more next keys = (keys.0, keys.1)
   key_of all (d ∷ done) more next keys = key_of all done more next keys.2
 
-  kept_value : KeepsValues shows g eq l h old → (all done more : List (Entry (Option V))) (next : Entry (Option V)) → IsFilledWithNone eq l h old all → all ≡ done ++ next ∷ more → KeepsValue shows g eq next.value
-  kept_value keeps all done more next is parts =
+  kept_value : (all done more : List (Entry (Option V))) (next : Entry (Option V)) → IsFilledWithNone eq l h old all → all ≡ done ++ next ∷ more → (P : Option V → Type 0) → ((k : ℤ) → l ≤ℤ k → k ≤ℤ h → P (at old k)) → P next.value
+  kept_value all done more next is parts P each =
       let run = walked_run (option_eq eq) (options_equiv laws) l h all is.range_map done more next parts in
       let keys = key_of all done more next (subst (AreKeys l h) parts is.range_map.keys) in
       let below : next.lo ≤ℤ h = omega (arith, ints, run.order, keys.1) in
       let value : next.value ≡ at old next.lo = same_Some next.value (at old next.lo) (sym (run.value next.lo (omega (arith, ints)) run.order) ∙ is.content next.lo keys.0 below) in
-      subst (KeepsValue shows g eq) (sym value) (keeps next.lo keys.0 below)
+      subst P (sym value) (each next.lo keys.0 below)
 
-  pub keeps_piece : KeepsValues shows g eq l h old → AtEachPiece (λ f' v. KeepsValue shows g eq v)
-  keeps_piece keeps all done more next is parts f' edits new asked = kept_value keeps all done more next is parts
+  pub keeps_piece : KeepsValues shows g eq l h f old → AtEachPiece (KeepsValue shows g eq)
+  keeps_piece keeps all done more next is parts f' edits new asked =
+      kept_value all done more next is parts (KeepsValue shows g eq f') (λ k from to. keeps k from to (values done) f' (some_calls shows g eq done f f' edits new asked))
 
   -- then each result equals the old value
   abbrev oks : List (Option V) → List (Result (Option V) AllocError)
   oks rs = map Ok rs
 
-  steady_turns : (all done more : List (Entry (Option V))) (results : List (Option V)) (f' last : F) → KeepsValues shows g eq l h old → IsFilledWithNone eq l h old all → all ≡ done ++ more → length (oks results) ≡ length (values more)
+  keeps_next : (f' f'' : F) (v : Option V) → KeepsValues shows g eq l h f' old → SomeCallAtValue shows g f' v f'' → KeepsValues shows g eq l h f'' old
+  keeps_next f' f'' v keeps call k from to before last calls = keeps k from to (v ∷ before) last (f'', call, calls)
+
+  steady_turns : (all done more : List (Entry (Option V))) (results : List (Option V)) (f' last : F) → KeepsValues shows g eq l h f' old → IsFilledWithNone eq l h old all → all ≡ done ++ more → length (oks results) ≡ length (values more)
       → FoldsTo (λ j c k. AnswersAtValue shows g j c.0 c.1 k) f' (zip (values more) (oks results)) last → SameEntries (option_eq eq) (entries_with_results more results) more
   steady_turns all done [] results f' last keeps is parts count calls = tt
   steady_turns all done (p ∷ more) [] f' last keeps is parts count calls = absurd (omega (arith, count))
   steady_turns all done (p ∷ more) (x ∷ results) f' last keeps is parts count calls = (
     refl,
     refl,
-    kept_value keeps all done more p is parts f' calls.0 (Ok x) calls.1,
-    steady_turns all (done ++ p ∷ []) more results calls.0 last keeps is (parts ∙ sym (append_assoc done (p ∷ []) more)) (omega (arith, count)) calls.2,
+    kept_value all done more p is parts (KeepsValue shows g eq f') (λ k from to. keeps k from to [] f' refl) calls.0 (Ok x) calls.1,
+    steady_turns all (done ++ p ∷ []) more results calls.0 last (keeps_next f' calls.0 p.value keeps (Ok x, calls.1)) is (parts ∙ sym (append_assoc done (p ∷ []) more)) (omega (arith, count)) calls.2,
   )
 
-  pub steady_answers : (answers : List (Entry (Option V))) (a : AreAnswersAtPieces shows g eq l h f old answers) → KeepsValues shows g eq l h old → SameEntries (option_eq eq) answers a.pieces
+  pub steady_answers : (answers : List (Entry (Option V))) (a : AreAnswersAtPieces shows g eq l h f old answers) → KeepsValues shows g eq l h f old → SameEntries (option_eq eq) answers a.pieces
   steady_answers answers a keeps =
       subst (λ es. SameEntries (option_eq eq) es a.pieces) (sym a.answers_are) (steady_turns a.pieces [] a.pieces a.results f a.in_turn.last keeps a.are_pieces refl a.in_turn.count a.in_turn.calls)
 

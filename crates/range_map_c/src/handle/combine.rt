@@ -1,7 +1,7 @@
 //! The values of a range, combined with one value.
-ghost use Rattle.std.specs.Prelude.{◌≡◌, ◌≢◌, ◌⊎◌, ◌↔◌, ◌<◌, ◌≤◌, ◌<ℤ◌, pos, OnOk, OnErr, nat_eq};
+ghost use Rattle.std.specs.Prelude.{◌≡◌, ◌≢◌, ◌⊎◌, ◌↔◌, ◌<◌, ◌≤◌, ◌<ℤ◌, ◌≤ℤ◌, pos, Ok, OnOk, OnErr, nat_eq};
 ghost use Rattle.blaze_streams.specs.Carried.{shown_option};
-ghost use Rattle.range_map_c.specs.Combined.{operated, combined, IsCombined, IsPartCombined};
+ghost use Rattle.range_map_c.specs.Combined.{operated, combined, IsCombined, IsPartCombined, LeavesAll};
 ghost use Rattle.range_map_c.specs.Handle.{least_key, greatest_key};
 ghost use Rattle.range_map_c.specs.Status.{IsStatus, IsCombineStatus, OnDone, OnRefused};
 
@@ -32,8 +32,10 @@ const MAPPED: u32 = 1;
 /// - 6: the old value
 ///
 /// If `op` or `place` is another number, whatever the range is, the map is unchanged. If an allocation fails, a first part of the
-/// entries and gaps in the range is changed, perhaps none. A range in which nothing changes does not allocate. O(log n) for n entries, O(1) for each entry and each gap in the range, and O(log n) for each of
-/// them that changes.
+/// entries and gaps in the range is changed, perhaps none. A range in which nothing changes does not allocate, and the call
+/// succeeds.
+///
+/// O(log n) for n entries, O(1) for each entry and each gap in the range, and O(log n) for each of them that changes.
 #[unsafe(no_mangle)]
 pub extern "C" fn range_map_combine_unchecked(
     alloc: Global,
@@ -53,6 +55,8 @@ pub extern "C" fn range_map_combine_unchecked(
         → (result ≡ pos 0) × (map.new.entries ≡ map.old.entries) }
     ensures err { OnRefused result (IsPartCombined least_key greatest_key lo hi
         (combined op place value) map.old.entries map.new.entries) }
+    ensures steady { op ≤ 6 → place ≤ 1 → LeavesAll lo hi (combined op place value) map.old.entries
+        → result ≡ pos 0 }
 {
     map.in_hand(alloc);
     if op > KEEP_OLD || place > MAPPED {
@@ -77,6 +81,8 @@ fn combine_all(alloc: Global, map: &mut RangeMap, lo: i64, hi: i64, value: u64, 
         map.old.entries map.new.entries) }
     ensures err { OnRefused result (IsPartCombined least_key greatest_key lo hi
         (combined op 0 value) map.old.entries map.new.entries) }
+    ensures steady { lo ≤ℤ hi → LeavesAll lo hi (combined op 0 value) map.old.entries
+        → result ≡ pos 0 }
 {
     map.in_hand(alloc);
     let mut boxed = match map.take_or_make(alloc) {
@@ -101,6 +107,7 @@ fn combine(
         map.old.entries map.new.entries) }
     ensures err { OnErr result (IsPartCombined least_key greatest_key lo hi
         (combined op place value) map.old.entries map.new.entries) }
+    ensures steady { LeavesAll lo hi (combined op place value) map.old.entries → result ≡ Ok tt }
 {
     map.in_hand();
     map.ranges_update(lo..=hi, |old| Ok(combined_with(old, value, op, place)))

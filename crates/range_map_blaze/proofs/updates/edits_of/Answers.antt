@@ -29,6 +29,6 @@ pub returns-in_err-ask_up_to-clause-steady : goal.returns-in_err-ask_up_to-claus
 returns-in_err-ask_up_to-clause-steady g c = λ keeps.
     let rank = g.T.Integer.rank in
     let good = c.ask_up_to.ensures.steady (at_last (λ a. shown_option (λ v. v.now) a.0) g.F.FnMut g.V.PartialEq.eq g.met.V.Eq.laws (rank c.args.start) (rank c.args.end) c.args.f c.args.table.now.entries
-    (λ f v. KeepsValue (λ a. shown_option (λ v. v.now) a.0) g.F.FnMut g.V.PartialEq.eq v) (keeps_piece (λ a. shown_option (λ v. v.now) a.0) g.F.FnMut g.V.PartialEq.eq g.met.V.Eq.laws (rank c.args.start) (rank c.args.end) c.args.f c.args.table.now.entries keeps)
+    (KeepsValue (λ a. shown_option (λ v. v.now) a.0) g.F.FnMut g.V.PartialEq.eq) (keeps_piece (λ a. shown_option (λ v. v.now) a.0) g.F.FnMut g.V.PartialEq.eq g.met.V.Eq.laws (rank c.args.start) (rank c.args.end) c.args.f c.args.table.now.entries keeps)
     (rank_or_end rank g.T.Integer.high c.in_ok-next.next) _ _ _ c.in_ok-next.ensures.asked) in
     absurd (ok_is_no_err good c.in_err-ask_up_to.was)

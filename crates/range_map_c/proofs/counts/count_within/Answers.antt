@@ -10,6 +10,9 @@ use Rattle.range_map_c.specs.Handle.{least_key, greatest_key}
 use Rattle.range_map_c.proofs.Within.{covered_empty, covered_overlapping, covered_some, covered_fits, counted_next}
 use Rattle.range_map_c.proofs.counts.count_within.Goals as goal
 
+order_of : {s e l h : ℤ} → s ≡ l → e ≡ h → l ≤ℤ h → s ≤ℤ e
+order_of p q w = omega (arith, ints, p, q, w)
+
 pub returns-then-hi-lo : goal.returns-then-hi-lo
 returns-then-hi-lo c = sym (covered_empty c.args.lo c.args.hi c.args.map.now.entries (grind (arith, ints)))
 
@@ -19,7 +22,7 @@ loop-range-init c =
     let lo : ℤ = to_z w64 (of_z w64 c.args.lo) in
     let hi : ℤ = to_z w64 (of_z w64 c.args.hi) in
     let whole : c.overlapping-entries.result ≡ overlapping lo hi es =
-    c.overlapping-entries.ensures.within (search rules) (search rules) ∙ ap (λ z. overlapping z (range_inclusive_end c.new.result) es) c.new.ensures.start
+    c.overlapping-entries.ensures.within (search rules) (order_of c.new.ensures.start c.new.ensures.end (omega (arith, ints, c.if-hi-lo.false))) ∙ ap (λ z. overlapping z (range_inclusive_end c.new.result) es) c.new.ensures.start
     ∙ ap (λ z. overlapping lo z es) c.new.ensures.end in
     let all : covered_keys lo hi c.overlapping-entries.result ≡ covered_keys lo hi es = ap (covered_keys lo hi) whole ∙ sym (covered_overlapping lo hi es) in
     (tt, tt, omega (arith, ints))

@@ -14,17 +14,17 @@ returns-then-there-value c =
     let found : entry_at es c.args.lo ≡ Some e = sym (c.in-Some.ensures.entry ∙ ap (entry_at es) lo) in
     let bounds = found_end c.args.lo es e c.in_hand.ensures.keys found in
     let end : to_z w64 (of_z w64 c.end.result.now) ≡ e.hi = ap (λ z. to_z w64 (of_z w64 z)) c.end.ensures ∙ omega (arith, ints, bounds.0, bounds.1) in
-    rw hi (rw end (inside_if_ends c.args.lo c.args.hi c.args.value es c.in_hand.ensures (grind (arith, ints)) e found c.if-there-value.true))
+    rw hi (rw end (inside_if_ends c.args.lo c.args.hi c.args.value es c.in_hand.ensures (omega (arith, ints, c.if-hi-lo.false)) e found c.if-there-value.true))
 
 pub returns-else-there-value : goal.returns-else-there-value
 returns-else-there-value c =
     let es = c.args.map.now.entries in
     let lo : to_z w64 (of_z w64 c.args.lo) ≡ c.args.lo = omega (arith, ints) in
     let e : Entry ℕ = entry (range_inclusive_start c.in-Some.range) (range_inclusive_end c.in-Some.range) c.in-Some.there.now in
-    inside_if_same c.args.lo c.args.hi c.args.value es c.in_hand.ensures (grind (arith, ints)) e (sym (c.in-Some.ensures.entry ∙ ap (entry_at es) lo)) c.if-there-value.false
+    inside_if_same c.args.lo c.args.hi c.args.value es c.in_hand.ensures (omega (arith, ints, c.if-hi-lo.false)) e (sym (c.in-Some.ensures.entry ∙ ap (entry_at es) lo)) c.if-there-value.false
 
 pub returns-in-None : goal.returns-in-None
 returns-in-None c =
     let es = c.args.map.now.entries in
     let lo : to_z w64 (of_z w64 c.args.lo) ≡ c.args.lo = omega (arith, ints) in
-    inside_if_found c.args.lo c.args.hi c.args.value es c.in_hand.ensures (grind (arith, ints)) (sym (c.in-None.ensures.entry ∙ ap (entry_at es) lo))
+    inside_if_found c.args.lo c.args.hi c.args.value es c.in_hand.ensures (omega (arith, ints, c.if-hi-lo.false)) (sym (c.in-None.ensures.entry ∙ ap (entry_at es) lo))

@@ -11,5 +11,5 @@ returns-clause-edits g c =
 pub returns-clause-steady : goal.returns-clause-steady
 returns-clause-steady g c =
     let rank = g.T.Integer.rank in
-    subst (λ (s : CountedEntries g.row.V.Denot). KeepsValues (λ a. shown_option (λ v. v.now) a.0) g.F.FnMut g.V.PartialEq.eq (rank c.args.start) (rank c.args.end) s.entries → IsOk c.edits_of.result) c.self.view_is
+    subst (λ (s : CountedEntries g.row.V.Denot). KeepsValues (λ a. shown_option (λ v. v.now) a.0) g.F.FnMut g.V.PartialEq.eq (rank c.args.start) (rank c.args.end) c.args.f s.entries → IsOk c.edits_of.result) c.self.view_is
     c.edits_of.ensures.steady

@@ -23,7 +23,7 @@ returns-in-Some-clause-err g c = λ told.
 
 pub returns-in-Some-clause-steady : goal.returns-in-Some-clause-steady
 returns-in-Some-clause-steady g c = λ told.
-    with_ends (λ l h. KeepsValues (λ a. shown_option (λ v. v.now) a.0) g.F.FnMut g.V.PartialEq.eq l h c.args.self.now.entries → c.update_between.result ≡ Ok tt) (c.in-Some.ensures.ranks told) c.update_between.ensures.steady
+    with_ends (λ l h. KeepsValues (λ a. shown_option (λ v. v.now) a.0) g.F.FnMut g.V.PartialEq.eq l h c.args.f c.args.self.now.entries → c.update_between.result ≡ Ok tt) (c.in-Some.ensures.ranks told) c.update_between.ensures.steady
 
 pub returns-in-Some-clause-none : goal.returns-in-Some-clause-none
 returns-in-Some-clause-none g c = λ told below. let ends = c.in-Some.ensures.ranks told in absurd (omega (arith, ints, ends.0, ends.1, c.in-Some.ensures.order))

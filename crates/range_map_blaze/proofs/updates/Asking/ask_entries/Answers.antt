@@ -79,7 +79,7 @@ returns-in_err-ask_below-clause-steady g c = λ keeps.
     let good = c.ask_below.ensures.steady (walk_at_gap (λ a. shown_option (λ v. v.now) a.0) g.F.FnMut g.V.PartialEq.eq g.met.V.Eq.laws (rank c.args.start) (rank c.args.end) c.args.self.now.f c.args.table.now.entries
     g.T.Integer.low g.T.Integer.high _ _ _ _ _ c.in_hand.ensures c.requires.order walk
     e c.next.new.self c.in-Some.ensures.steps (rank c.greater-first.result) (rank c.lesser-last.result) under c.greater-first.ensures c.lesser-last.ensures
-    (λ f v. KeepsValue (λ a. shown_option (λ v. v.now) a.0) g.F.FnMut g.V.PartialEq.eq v) (keeps_piece (λ a. shown_option (λ v. v.now) a.0) g.F.FnMut g.V.PartialEq.eq g.met.V.Eq.laws (rank c.args.start) (rank c.args.end) c.args.self.now.f c.args.table.now.entries keeps)) in
+    (KeepsValue (λ a. shown_option (λ v. v.now) a.0) g.F.FnMut g.V.PartialEq.eq) (keeps_piece (λ a. shown_option (λ v. v.now) a.0) g.F.FnMut g.V.PartialEq.eq g.met.V.Eq.laws (rank c.args.start) (rank c.args.end) c.args.self.now.f c.args.table.now.entries keeps)) in
     absurd (ok_is_no_err good c.in_err-ask_below.was)
 
 pub returns-in_err-ask-clause-steady : goal.returns-in_err-ask-clause-steady
@@ -92,5 +92,5 @@ returns-in_err-ask-clause-steady g c = λ keeps.
     g.T.Integer.low g.T.Integer.high _ _ _ _ _ c.in_hand.ensures c.requires.order walk
     e c.next.new.self c.in-Some.ensures.steps (rank c.greater-first.result) (rank c.lesser-last.result) under c.greater-first.ensures c.lesser-last.ensures
     _ _ c.in_ok-ask_below.ensures.asked
-    (λ f v. KeepsValue (λ a. shown_option (λ v. v.now) a.0) g.F.FnMut g.V.PartialEq.eq v) (keeps_piece (λ a. shown_option (λ v. v.now) a.0) g.F.FnMut g.V.PartialEq.eq g.met.V.Eq.laws (rank c.args.start) (rank c.args.end) c.args.self.now.f c.args.table.now.entries keeps)) in
+    (KeepsValue (λ a. shown_option (λ v. v.now) a.0) g.F.FnMut g.V.PartialEq.eq) (keeps_piece (λ a. shown_option (λ v. v.now) a.0) g.F.FnMut g.V.PartialEq.eq g.met.V.Eq.laws (rank c.args.start) (rank c.args.end) c.args.self.now.f c.args.table.now.entries keeps)) in
     absurd (ok_is_no_err good c.in_err-ask.was)

@@ -22,7 +22,7 @@ returns-then-is_at_most-clause-steady g c = λ keeps.
     let rank = g.T.Integer.rank in
     let first = ap (rank_or_end rank g.T.Integer.high) c.in-Some.is in
     let there = by_at_most (rank c.in-Some.first) (rank c.args.end) c.is_at_most.result c.is_at_most.ensures c.if-is_at_most.true in
-    c.ask.ensures.steady (subst (KeepsValue (λ a. shown_option (λ v. v.now) a.0) g.F.FnMut g.V.PartialEq.eq) (sym c.as_ref.ensures.value) (keeps (omega (arith, ints, first, there))))
+    c.ask.ensures.steady (subst (KeepsValue (λ a. shown_option (λ v. v.now) a.0) g.F.FnMut g.V.PartialEq.eq c.args.self.now.f) (sym c.as_ref.ensures.value) (keeps (omega (arith, ints, first, there))))
 
 pub returns-else-is_at_most-clause-asked : goal.returns-else-is_at_most-clause-asked
 returns-else-is_at_most-clause-asked g c =
