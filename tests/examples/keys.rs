@@ -1,6 +1,7 @@
-//! Maps whose keys are addresses of IPv6: every address, all but one, a join with a prefix, and keys from both ends.
+//! Maps whose keys are addresses of IPv6: every address, all but one, a join with a prefix, and keys from both ends. Lengths of ranges,
+//! also of empty ones.
 use demo_keys::{Ipv6, prefix_range};
-use range_map_blaze::{Integer, RangeMapBlaze};
+use range_map_blaze::{Integer, RangeMapBlaze, range_len};
 use std::alloc::AllocError;
 
 /// A map of addresses.
@@ -28,6 +29,16 @@ fn shared(rt: &HostRuntime, map: &Addresses) -> Result<(), AllocError> {
     Ok(())
 }
 
+/// How many keys some ranges have: several, one, none, and all of the key type.
+fn lengths(rt: &HostRuntime) {
+    let bytes = [3u8..=7, 7..=7, 7..=3, 0..=255];
+    for range in &bytes {
+        let _ = println!(rt; "{} {}: {}", range.start(), range.end(), range_len(range));
+    }
+    let every = Ipv6::min_value()..=Ipv6::max_value();
+    let _ = println!(rt; "{}", range_len(&every));
+}
+
 /// Makes all calls of this file.
 pub fn all(rt: &HostRuntime) -> Result<(), AllocError> {
     let every = Ipv6::min_value()..=Ipv6::max_value();
@@ -36,5 +47,6 @@ pub fn all(rt: &HostRuntime) -> Result<(), AllocError> {
     ends(rt, &map);
     let lacking = (!&map)?;
     let _ = println!(rt; "{} keys without a value", lacking.len());
+    lengths(rt);
     shared(rt, &map)
 }

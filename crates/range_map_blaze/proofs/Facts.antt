@@ -5,3 +5,5 @@ pub use Rattle.blaze_entries.proofs.Plain.{same_is, is_none_by}
 pub use Rattle.blaze_entries.proofs.Canonical.EntryRuns.{entry_place, entry_run, member_run, walked_run}
 -- no entry has a key of the range, or none of its keys is counted: none of them has a value
 pub use Rattle.blaze_entries.proofs.Plain.{overlap_clear, count_clear}
+-- what a call makes of the items of an iterator, as that of a slice, it makes of the list that the iterator yields
+pub use Rattle.range_map_blaze.proofs.Listed.{of_list}

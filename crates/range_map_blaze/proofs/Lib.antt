@@ -20,4 +20,5 @@ pub mod SharedKeys
 pub mod TakenBack
 pub mod Told
 pub mod Facts
+pub mod Listed
 mod Words
