@@ -5,11 +5,11 @@ use Rattle.blaze_entries.specs.Entries.{Entry, holds, at, SameOption}
 -- ---- by definition
 
 -- a run of the content starts at the key: it has a value, and the key before has none or an unequal one
-abbrev pub IsRunStart : {V : Type 0} → (V → V → Bool) → (ℤ → Option V) → ℤ → Type 0
+unfoldable pub IsRunStart : {V : Type 0} → (V → V → Bool) → (ℤ → Option V) → ℤ → Type 0
 IsRunStart eq content k = IsSome (content k) × (¬ SameOption eq (content (k -ℤ pos 1)) (content k))
 
 -- a run of the content ends at the key: it has a value, and the key after has none or an unequal one
-abbrev pub IsRunEnd : {V : Type 0} → (V → V → Bool) → (ℤ → Option V) → ℤ → Type 0
+unfoldable pub IsRunEnd : {V : Type 0} → (V → V → Bool) → (ℤ → Option V) → ℤ → Type 0
 IsRunEnd eq content k = IsSome (content k) × (¬ SameOption eq (content k) (content (k +ℤ pos 1)))
 
 -- an entry starts at the key

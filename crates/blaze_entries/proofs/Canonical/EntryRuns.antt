@@ -1,5 +1,6 @@
 -- Each entry of a range map is a run of its content.
 use Rattle.blaze_entries.proofs.Words.{◌≡◌, ℤ, pos, ◌+ℤ◌, ◌-ℤ◌, ◌≤ℤ◌, ◌<ℤ◌, Bool, List, [], ◌∷◌, ◌++◌, Some, ◌∙◌, sym, subst, arith, ints, IsEquivalence, Contains, Contains-append_left, Contains-append_right, Contains-push, Entry, at, entry_at, IsCanonical, IsRangeMap, IsRun}
+use Rattle.blaze_entries.specs.Canonical.{IsRunStart, IsRunEnd}
 use Rattle.blaze_entries.proofs.Alike.{same_along}
 use Rattle.blaze_entries.proofs.Canonical.EntryAt.{entry_holds, entry_starts, entry_ends, entry_value}
 use Rattle.blaze_entries.proofs.Canonical.Lookup.{IsAbove-from_apart, entry_in, entry_over, holds_in, holds_ends}
@@ -13,6 +14,7 @@ module _ {V : Type 0} (eq : V → V → Bool) (laws : IsEquivalence eq) (low hig
     entry_place = holds_ends e k (entry_holds k e es is)
 
     pub entry_run : IsRun eq (at es) e.lo e.hi e.value
+    unfolding IsRunStart IsRunEnd
     entry_run =
         let order : e.lo ≤ℤ e.hi = omega (arith, ints, entry_place.0, entry_place.1) in
         let value : (j : ℤ) → e.lo ≤ℤ j → j ≤ℤ e.hi → at es j ≡ Some e.value = λ j l h. entry_value k e es j map.runs.disjoint is (holds_in e j l h) in

@@ -1,5 +1,6 @@
 -- A canonical list has the fewest entries.
-use Rattle.blaze_entries.proofs.Words.{none_is_not, ◌≡◌, ℕ, ◌+◌, ◌≤◌, ℤ, pos, ◌+ℤ◌, ◌-ℤ◌, ◌≤ℤ◌, ◌<ℤ◌, Bool, cond, List, [], ◌∷◌, length, Option, Some, None, refl, sym, subst, arith, inl, inr, IsSome, int_lt, ints, by_lt_z, IsEquivalence, Entry, at, SameOption, SameContent, IsCanonical, IsRunEnd, HasEnd, IsDisjoint}
+use Rattle.blaze_entries.proofs.Words.{none_is_not, ◌≡◌, ℕ, ◌+◌, ◌≤◌, ℤ, pos, ◌+ℤ◌, ◌-ℤ◌, ◌≤ℤ◌, ◌<ℤ◌, Bool, cond, List, [], ◌∷◌, length, Option, Some, None, refl, sym, subst, arith, inl, inr, IsSome, int_lt, ints, by_lt_z, IsEquivalence, Entry, at, SameOption, SameContent, IsCanonical, HasEnd, IsDisjoint}
+use Rattle.blaze_entries.specs.Canonical.{IsRunEnd}
 use Rattle.blaze_entries.proofs.Alike.{same_along, same_trans, some_of_same}
 use Rattle.blaze_entries.proofs.Canonical.Lookup.{IsAbove, IsAbove-from_apart, at_in, at_under, at_over, by_place, holds_in, at_clear}
 use Rattle.blaze_entries.proofs.Canonical.Unique.{back}
@@ -36,6 +37,7 @@ module _ {V : Type 0} (eq : V → V → Bool) (laws : IsEquivalence eq) where
 
   -- at each run end, an entry of a disjoint list ends
   end_in : (ds : List (Entry V)) (k : ℤ) → IsDisjoint ds → IsRunEnd eq (at ds) k → HasEnd ds k
+  unfolding IsRunEnd
   end_in [] k d r = absurd (none_is_not {X = V} None refl r.0)
   end_in (e ∷ es) k d r = by_place e k
       (λ l h. by_lt_z k e.hi
@@ -52,6 +54,7 @@ module _ {V : Type 0} (eq : V → V → Bool) (laws : IsEquivalence eq) where
       ends_before (Some x) (Some y) p s = cc
 
   run_end_same : (L M : List (Entry V)) (k : ℤ) → SameContent eq L M → IsRunEnd eq (at L) k → IsRunEnd eq (at M) k
+  unfolding IsRunEnd
   run_end_same L M k s r = (
     some_of_same eq (at L k) (at M k) (s k) r.0,
     λ q.

@@ -1,5 +1,6 @@
 -- The entries of a canonical list are the runs of its content.
-use Rattle.blaze_entries.proofs.Words.{none_is_not, ◌≡◌, ℤ, pos, ◌+ℤ◌, ◌-ℤ◌, ◌≤ℤ◌, ◌<ℤ◌, Bool, true, false, List, [], ◌∷◌, Option, Some, None, refl, ◌∙◌, sym, subst, ap, arith, inl, inr, ◌↔◌, IsSome, ints, by_lt_z, IsEquivalence, Entry, holds, at, SameOption, IsApart, IsCanonical, IsRunStart, IsRunEnd, HasStart, HasEnd, IsClear, IsDisjoint, IsAscending, IsOnePerRun, ◌⊎◌}
+use Rattle.blaze_entries.proofs.Words.{none_is_not, ◌≡◌, ℤ, pos, ◌+ℤ◌, ◌-ℤ◌, ◌≤ℤ◌, ◌<ℤ◌, Bool, true, false, List, [], ◌∷◌, Option, Some, None, refl, ◌∙◌, sym, subst, ap, arith, inl, inr, ◌↔◌, IsSome, ints, by_lt_z, IsEquivalence, Entry, holds, at, SameOption, IsApart, IsCanonical, HasStart, HasEnd, IsClear, IsDisjoint, IsAscending, IsOnePerRun, ◌⊎◌}
+use Rattle.blaze_entries.specs.Canonical.{IsRunStart, IsRunEnd}
 use Rattle.blaze_entries.proofs.Alike.{same_along}
 use Rattle.blaze_entries.proofs.Canonical.Lookup.{IsAbove, IsAbove-from_apart, at_in, at_over, by_place, at_before, holds_in, holds_under, holds_over}
 use Rattle.blaze_entries.proofs.Canonical.Unique.{breaks}
@@ -11,9 +12,11 @@ in_order e f fs d a = by_lt_z e.hi f.lo (λ l. l) (λ l. absurd (d.1.0 f.lo (hol
 module _ {V : Type 0} (eq : V → V → Bool) (laws : IsEquivalence eq) where
   -- run starts of two contents that have the same values at the key and before it
   pub start_along : (c d : ℤ → Option V) (k : ℤ) → c k ≡ d k → c (k -ℤ pos 1) ≡ d (k -ℤ pos 1) → IsRunStart eq c k → IsRunStart eq d k
+  unfolding IsRunStart
   start_along c d k p q s = (subst (λ o. IsSome o) p s.0, λ h. s.1 (same_along eq (sym q) (sym p) h))
 
   pub end_along : (c d : ℤ → Option V) (k : ℤ) → c k ≡ d k → c (k +ℤ pos 1) ≡ d (k +ℤ pos 1) → IsRunEnd eq c k → IsRunEnd eq d k
+  unfolding IsRunEnd
   end_along c d k p q s = (subst (λ o. IsSome o) p s.0, λ h. s.1 (same_along eq (sym p) (sym q) h))
 
   -- a key with a value is above the bound of the list
@@ -21,6 +24,7 @@ module _ {V : Type 0} (eq : V → V → Bool) (laws : IsEquivalence eq) where
   some_above es b k c a h = by_lt_z b k (λ l. l) (λ l. absurd (none_is_not (at es k) (at_before eq es b k c a l) h))
 
   start_first : (e : Entry V) (es : List (Entry V)) (k : ℤ) → IsCanonical eq (e ∷ es) → IsRunStart eq (at (e ∷ es)) k → (k ≡ e.lo) ⊎ IsRunStart eq (at es) k
+  unfolding IsRunStart
   start_first e es k c s = by_place e k
       (λ l h. by_lt_z e.lo k
       (λ m. absurd (s.1 (same_along eq (sym (at_in e es (k -ℤ pos 1) (omega (arith, ints)) (omega (arith, ints)))) (sym (at_in e es k l h)) (laws.refl e.value))))
@@ -38,6 +42,7 @@ module _ {V : Type 0} (eq : V → V → Bool) (laws : IsEquivalence eq) where
       none_against (Some x) b p h q = cc
 
   start_later : (e : Entry V) (es : List (Entry V)) (k : ℤ) → IsCanonical eq (e ∷ es) → (k ≡ e.lo) ⊎ IsRunStart eq (at es) k → IsRunStart eq (at (e ∷ es)) k
+  unfolding IsRunStart
   start_later e es k c (inl p) =
       let here = at_in e es k (omega (arith, ints)) (omega (arith, ints, c.0)) in
       let before = at_before eq (e ∷ es) (e.lo -ℤ pos 1) (k -ℤ pos 1) c (omega (arith, ints)) (omega (arith, ints)) in
@@ -57,6 +62,7 @@ module _ {V : Type 0} (eq : V → V → Bool) (laws : IsEquivalence eq) where
       breaks_some e es (Some w) c p q = breaks eq laws e es w c q (same_along eq p refl (laws.refl w))
 
   end_first : (e : Entry V) (es : List (Entry V)) (k : ℤ) → IsCanonical eq (e ∷ es) → IsRunEnd eq (at (e ∷ es)) k → (k ≡ e.hi) ⊎ IsRunEnd eq (at es) k
+  unfolding IsRunEnd
   end_first e es k c s = by_place e k
       (λ l h. by_lt_z k e.hi
       (λ m. absurd (s.1 (same_along eq (sym (at_in e es k l h)) (sym (at_in e es (k +ℤ pos 1) (omega (arith, ints)) (omega (arith, ints)))) (laws.refl e.value))))
@@ -65,6 +71,7 @@ module _ {V : Type 0} (eq : V → V → Bool) (laws : IsEquivalence eq) where
       (λ h. inr (end_along (at (e ∷ es)) (at es) k (at_over e es k h) (at_over e es (k +ℤ pos 1) (omega (arith, ints))) s))
 
   end_later : (e : Entry V) (es : List (Entry V)) (k : ℤ) → IsCanonical eq (e ∷ es) → (k ≡ e.hi) ⊎ IsRunEnd eq (at es) k → IsRunEnd eq (at (e ∷ es)) k
+  unfolding IsRunEnd
   end_later e es k c (inl p) =
       let here = at_in e es k (omega (arith, ints, c.0)) (omega (arith, ints)) in (
         subst (λ o. IsSome o) (sym here) refl,
@@ -79,6 +86,7 @@ module _ {V : Type 0} (eq : V → V → Bool) (laws : IsEquivalence eq) where
       end_along (at es) (at (e ∷ es)) k (sym (at_over e es k over)) (sym (at_over e es (k +ℤ pos 1) (omega (arith, ints)))) s
 
   starts_are : (es : List (Entry V)) → IsCanonical eq es → (k : ℤ) → HasStart es k ↔ IsRunStart eq (at es) k
+  unfolding IsRunStart
   starts_are [] c k = (λ h. absurd h, λ s. none_is_not {X = V} None refl s.0)
   starts_are (e ∷ es) c k =
       let r = starts_are es c.2 k in (
@@ -87,6 +95,7 @@ module _ {V : Type 0} (eq : V → V → Bool) (laws : IsEquivalence eq) where
       )
 
   pub ends_are : (es : List (Entry V)) → IsCanonical eq es → (k : ℤ) → HasEnd es k ↔ IsRunEnd eq (at es) k
+  unfolding IsRunEnd
   ends_are [] c k = (λ h. absurd h, λ s. none_is_not {X = V} None refl s.0)
   ends_are (e ∷ es) c k =
       let r = ends_are es c.2 k in (
@@ -151,4 +160,5 @@ module _ {V : Type 0} (eq : V → V → Bool) (laws : IsEquivalence eq) where
 
   -- a list that is canonical by its runs is canonical by its neighbours
   pub canonical : (es : List (Entry V)) → IsOnePerRun eq es → IsCanonical eq es
+  unfolding IsRunEnd
   canonical es r = structural es r.disjoint r.ascending (λ k h. ((r.ends k).0 h).1)

@@ -142,6 +142,7 @@ impl<T: Integer, I: EntryEnds<T>> Iterator for KeyRanges<T, I> {
 
     ghost remaining = { item_count (λ s. s) };
 
+    #[tactic(auto, unfolding(blaze_entries::specs::Canonical::IsRunStart, blaze_entries::specs::Canonical::IsRunEnd))]
     fn next(&mut self) -> Option<RangeInclusive<T>> {
         let (start, mut end) = self.open.take()?;
         while let Some((next_start, next_end)) = first_ends(&mut self.entries, &mut self.back) {
@@ -171,6 +172,7 @@ impl<T: Integer, I: EntryEnds<T>> Iterator for KeyRanges<T, I> {
 impl<T: Integer, I: EntryEnds<T>> DoubleEndedIterator for KeyRanges<T, I> {
     ghost next_back_gives = { YieldsWholeLast (λ r. r) (shown_bare_range T.rank) (λ s. s) };
 
+    #[tactic(auto, unfolding(blaze_entries::specs::Canonical::IsRunStart, blaze_entries::specs::Canonical::IsRunEnd))]
     fn next_back(&mut self) -> Option<RangeInclusive<T>> {
         let (first, first_end) = self.open?;
         let Some((mut start, end)) = last_ends(&mut self.entries, &mut self.back) else {

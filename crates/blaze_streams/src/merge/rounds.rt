@@ -13,6 +13,7 @@ use blaze_int::Integer;
 use std::alloc::{AllocError, Global};
 
 /// The result of an operation between at most three streams. If an allocation fails, the streams are dropped.
+#[tactic(auto, unfolding(blaze_entries::specs::Canonical::IsRunStart, blaze_entries::specs::Canonical::IsRunEnd))]
 fn merged_few<T: Integer, VC: ValueCarrier, I: SortedDisjointMap<T, VC>, O: Operation<T, VC>>(
     alloc: Global,
     mut streams: Vec<I>,

@@ -1,5 +1,6 @@
 -- The joints of a list after one more gap has a separate entry.
-use Rattle.blaze_table.proofs.Words.{none_is_not, by_bool, not_both, ◌≡◌, ℤ, pos, ◌+ℤ◌, ◌-ℤ◌, ◌≤ℤ◌, ◌<ℤ◌, Bool, true, false, cond, List, Option, Some, None, refl, ◌∙◌, sym, subst, ap, arith, inl, inr, ◌⊎◌, IsSome, IsEquivalence, Contains, ints, by_lt_z, same_along, same_back, some_of_same, IsRunStart, Entry, entry, at, SameOption, IsBeside, IsJoinedBut, IsJoint, IsNoted, IsClearFrom, holds_in, holds_under, holds_over}
+use Rattle.blaze_table.proofs.Words.{none_is_not, by_bool, not_both, ◌≡◌, ℤ, pos, ◌+ℤ◌, ◌-ℤ◌, ◌≤ℤ◌, ◌<ℤ◌, Bool, true, false, cond, List, Option, Some, None, refl, ◌∙◌, sym, subst, ap, arith, inl, inr, ◌⊎◌, IsSome, IsEquivalence, Contains, ints, by_lt_z, same_along, same_back, some_of_same, Entry, entry, at, SameOption, IsBeside, IsJoinedBut, IsJoint, IsNoted, IsClearFrom, holds_in, holds_under, holds_over}
+use Rattle.blaze_entries.specs.Canonical.{IsRunStart}
 use Rattle.blaze_table.proofs.Fills.Puts.{IsPut}
 
 module _ {V : Type 0} (eq : V → V → Bool) (laws : IsEquivalence eq) (low high a b : ℤ) (w : V) (cur new : List (Entry V)) (order : a ≤ℤ b) (clear : IsClearFrom (at cur) a b) (p : IsPut low high (entry a b w) cur new) where
@@ -37,19 +38,23 @@ module _ {V : Type 0} (eq : V → V → Bool) (laws : IsEquivalence eq) (low hig
     first = new_in a (omega (arith, ints)) order
 
     at_first : IsRunStart eq (at new) a ⊎ Contains all a
+    unfolding IsRunStart
     at_first = by_same (at cur (a -ℤ pos 1))
         (λ s. inr (above.kept a (below.noted (beside.below.1 s))))
         (λ n. inl (some_w (at new a) first, λ s. n (same_along eq before first s)))
 
     at_behind : IsRunStart eq (at cur) (b +ℤ pos 1) → IsRunStart eq (at new) (b +ℤ pos 1) ⊎ Contains all (b +ℤ pos 1)
+    unfolding IsRunStart
     at_behind r = by_same (at cur (b +ℤ pos 1))
         (λ s. inr (above.noted (beside.above.1 s)))
         (λ n. inl (subst IsSome (sym behind) r.0, λ s. n (same_back eq laws (Some w) (at cur (b +ℤ pos 1)) (same_along eq last behind s))))
 
     neighbours : (k : ℤ) → at new k ≡ at cur k → at new (k -ℤ pos 1) ≡ at cur (k -ℤ pos 1) → IsRunStart eq (at cur) k → IsRunStart eq (at new) k
+    unfolding IsRunStart
     neighbours k q r s = (subst IsSome (sym q) s.0, λ t. s.1 (same_along eq r q t))
 
     at_other : (k : ℤ) → IsRunStart eq (at cur) k → IsRunStart eq (at new) k ⊎ Contains all k
+    unfolding IsRunStart
     at_other k r = by_lt_z k a
         (λ l. inl (neighbours k (new_under k l) (new_under (k -ℤ pos 1) (omega (arith, ints))) r))
         (λ l. by_lt_z b k

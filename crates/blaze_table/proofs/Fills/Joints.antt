@@ -1,5 +1,6 @@
 -- The joints are joined one by one.
-use Rattle.blaze_table.proofs.Words.{◌≡◌, ℤ, pos, ◌-ℤ◌, Bool, List, [], ◌∷◌, ◌++◌, length, Option, Some, map, ◌∙◌, sym, subst, ap, arith, inl, inr, option_to_list, IsEquivalence, Contains, Contains-append_left, Contains-push, Contains-push_cases, same_back, same_itself, same_trans, some_of_same, IsCanonical, IsRunStart, Entry, entry, at, SameOption, SameContent, AreStartsKept, IsJoint, IsJoinedAt, IsJoinedBut, IsOrdered}
+use Rattle.blaze_table.proofs.Words.{◌≡◌, ℤ, pos, ◌-ℤ◌, Bool, List, [], ◌∷◌, ◌++◌, length, Option, Some, map, ◌∙◌, sym, subst, ap, arith, inl, inr, option_to_list, IsEquivalence, Contains, Contains-append_left, Contains-push, Contains-push_cases, same_back, same_itself, same_trans, some_of_same, IsCanonical, Entry, entry, at, SameOption, SameContent, AreStartsKept, IsJoint, IsJoinedAt, IsJoinedBut, IsOrdered}
+use Rattle.blaze_entries.specs.Canonical.{IsRunStart}
 use Rattle.blaze_table.proofs.Fills.KeptEntries.{kept_further}
 use Rattle.blaze_table.proofs.Fills.Ordered.{canonical_by_starts}
 use Rattle.blaze_table.proofs.Fills.TakenBack.{map_last}
@@ -13,6 +14,7 @@ module _ {V : Type 0} (eq : V → V → Bool) (laws : IsEquivalence eq) where
   )
 
   pub run_start_as : (old new : ℤ → Option V) (k : ℤ) → ((j : ℤ) → SameOption eq (new j) (old j)) → IsRunStart eq old k → IsRunStart eq new k
+  unfolding IsRunStart
   run_start_as old new k s h = (
     some_of_same eq (old k) (new k) (same_back eq laws (new k) (old k) (s k)) h.0,
     λ q. h.1 (same_trans eq laws (old (k -ℤ pos 1)) (new (k -ℤ pos 1)) (old k) (same_back eq laws (new (k -ℤ pos 1)) (old (k -ℤ pos 1)) (s (k -ℤ pos 1)))
@@ -43,6 +45,7 @@ module _ {V : Type 0} (eq : V → V → Bool) (laws : IsEquivalence eq) where
 
   -- one joint more: no run starts there
   pub kept_next : (s low high : ℤ) (start es new : List (Entry V)) → SameContent eq es start → IsJoint eq (at es) s → IsJoinedAt eq low high s es new → AreStartsKept eq (at start) start es → AreStartsKept eq (at start) start new
+  unfolding IsRunStart
   kept_next s low high start es new same joint j kept e c r =
       let k = kept e c r in
       let was = joint_as (at es) (at start) s (λ i. same_back eq laws (at es i) (at start i) (same i)) joint in

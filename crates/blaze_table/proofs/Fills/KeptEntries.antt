@@ -1,5 +1,6 @@
 -- Entries that remain after a fill, with their very values.
 use Rattle.blaze_table.proofs.Words.{◌≡◌, ℤ, pos, ◌+ℤ◌, ◌≤ℤ◌, ◌<ℤ◌, Bool, List, [], ◌∷◌, Option, Some, refl, ◌∙◌, sym, subst, arith, IsEquivalence, Contains, ints, by_lt_z, same_along, same_back, same_trans, IsCanonical, Entry, entry, at, SameOption, IsKeptIn, AreStartsKept, AreKept, IsAbove-from_apart, at_in, at_over, by_first, same_in, later_in, over_in}
+use Rattle.blaze_entries.specs.Canonical.{IsRunEnd}
 
 module _ {V : Type 0} where
   none_in : {P : Type 0} (e : Entry V) → Contains [] e → P
@@ -44,6 +45,7 @@ module _ {V : Type 0} (eq : V → V → Bool) where
   -- an entry whose end is a run end of the content has no later end
   pub are_kept : (laws : IsEquivalence eq) (content : ℤ → Option V) (old new : List (Entry V)) → IsCanonical eq old → IsCanonical eq new → ((k : ℤ) → SameOption eq (at new k) (content k))
       → AreStartsKept eq content old new → AreKept eq content old new
+  unfolding IsRunEnd
   are_kept laws content old new d f same starts = record {
     starts = starts;
     whole = λ e c s t.

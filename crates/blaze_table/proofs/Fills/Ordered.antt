@@ -1,5 +1,6 @@
 -- Ordered lists, whose touching entries may have equal values.
-use Rattle.blaze_table.proofs.Words.{none_is_not, ◌≡◌, ℕ, ℤ, pos, ◌-ℤ◌, ◌<ℤ◌, Bool, true, false, List, [], ◌∷◌, Option, Some, None, refl, ◌∙◌, sym, subst, arith, inl, inr, IsSome, ints, by_lt_z, same_along, IsApart, IsCanonical, IsRunStart, HasStart, Entry, at, SameOption, never_equal, IsOrdered, IsOrderedTable, IsTable, IsAbove, IsAbove-from_apart, at_in, at_over, at_before}
+use Rattle.blaze_table.proofs.Words.{none_is_not, ◌≡◌, ℕ, ℤ, pos, ◌-ℤ◌, ◌<ℤ◌, Bool, true, false, List, [], ◌∷◌, Option, Some, None, refl, ◌∙◌, sym, subst, arith, inl, inr, IsSome, ints, by_lt_z, same_along, IsApart, IsCanonical, HasStart, Entry, at, SameOption, never_equal, IsOrdered, IsOrderedTable, IsTable, IsAbove, IsAbove-from_apart, at_in, at_over, at_before}
+use Rattle.blaze_entries.specs.Canonical.{IsRunStart}
 
 not_true : (b : Bool) → (b ≡ true → ⊥) → b ≡ false
 not_true true h = absurd (h refl)
@@ -25,6 +26,7 @@ module _ {V : Type 0} where
 
   -- an ordered list is canonical if each start is a run start
   pub canonical_by_starts : (eq : V → V → Bool) (es : List (Entry V)) → IsOrdered es → ((k : ℤ) → HasStart es k → IsRunStart eq (at es) k) → IsCanonical eq es
+  unfolding IsRunStart
   canonical_by_starts eq [] c s = tt
   canonical_by_starts eq (e ∷ es) c s = (c.0, apart es c s, canonical_by_starts eq es c.2 later)
     where

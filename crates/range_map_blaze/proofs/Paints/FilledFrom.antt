@@ -1,5 +1,6 @@
 -- One map's entries filled into the gaps of another.
-use Rattle.range_map_blaze.proofs.Words.{option_or, ◌≡◌, ℤ, pos, ◌-ℤ◌, ◌<ℤ◌, Bool, true, false, cond, List, [], ◌∷◌, ◌++◌, Option, Some, None, refl, ◌∙◌, sym, ap, subst, arith, inr, Result, Ok, Err, OnOk, IsSome, IsEquivalence, Contains, ints, same_along, same_back, same_itself, same_trans, same_or, or_none, or_assoc, Entry, entry, at, holds, SameOption, IsCanonical, IsRangeMap, IsRunStart, filled_content, fill_inside, fill_held, fill_outside, IsFilled, chosen, above_low, at_append, canonical, start_along, unique, run_start_as, all_kept, are_kept, kept_further, value_in, over_in, IsFilledFrom, FillingIsUnion, IsFilledSomewhere, IsUnion}
+use Rattle.range_map_blaze.proofs.Words.{option_or, ◌≡◌, ℤ, pos, ◌-ℤ◌, ◌<ℤ◌, Bool, true, false, cond, List, [], ◌∷◌, ◌++◌, Option, Some, None, refl, ◌∙◌, sym, ap, subst, arith, inr, Result, Ok, Err, OnOk, IsSome, IsEquivalence, Contains, ints, same_along, same_back, same_itself, same_trans, same_or, or_none, or_assoc, Entry, entry, at, holds, SameOption, IsCanonical, IsRangeMap, filled_content, fill_inside, fill_held, fill_outside, IsFilled, chosen, above_low, at_append, canonical, start_along, unique, run_start_as, all_kept, are_kept, kept_further, value_in, over_in, IsFilledFrom, FillingIsUnion, IsFilledSomewhere, IsUnion}
+use Rattle.blaze_entries.specs.Canonical.{IsRunStart}
 use Rattle.range_map_blaze.proofs.Paints.Nowhere.{no_key}
 use Rattle.range_map_blaze.proofs.Paints.PaintedOver.{turned}
 use Rattle.range_map_blaze.proofs.Unions.{union_of}
@@ -32,6 +33,7 @@ module _ {V : Type 0} (eq : V → V → Bool) (laws : IsEquivalence eq) (low hig
 
   -- where more keys have values, a run that starts at a value that was there has started there before
   start_before : (content more : ℤ → Option V) (k : ℤ) → IsSome (content k) → IsRunStart eq (λ j. option_or (content j) (more j)) k → IsRunStart eq content k
+  unfolding IsRunStart
   start_before content more k i s = (i, λ q. s.1 (grown (content (k -ℤ pos 1)) (content k) (more (k -ℤ pos 1)) (more k) q i))
 
   module _ (old : List (Entry V)) where
