@@ -48,7 +48,7 @@ MARKS = {
 }
 
 # Pages and comments whose sentences are counted; comments of scripts and the other pages are read for words alone.
-COUNTED = re.compile(r"(README|TASKS|KEYS|CALLS|ERRORS)\.md$|\.(rt|rs|h|hpp|pyx|pxi|pyi?)$")
+COUNTED = re.compile(r"(README|TASKS|KEYS|CALLS|ERRORS|PROVE)\.md$|\.(rt|rs|h|hpp|pyx|pxi|pyi?)$")
 
 Lines = list[tuple[int, str]]
 

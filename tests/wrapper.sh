@@ -55,11 +55,12 @@ $(awk '!/^\/\/!/ { exit } /^\/\/! / { print substr($0, 5) }' "$top/crates/tables
     tells "$name with a wrong argument" "'lines' is not understood" "usage: tools/run $name < FILE"
 done
 
-# ---- The lines of README.md: the first block of code is in first_map, and prints what the block behind it says
-block() { # the number of an indented block of README.md
-    awk -v wanted="$1" '/^    / { if (!inside) count++; inside = 1; if (count == wanted) print substr($0, 5); next } { inside = 0 }' "$top/README.md"
+# ---- The lines of README.md, from "Try it" on: the first block of code is in first_map, and prints what the block behind it says
+sed '1,/^## Try it$/d' "$top/README.md" >"$work/try_it"
+block() { # the number of an indented block
+    awk -v wanted="$1" '/^    / { if (!inside) count++; inside = 1; if (count == wanted) print substr($0, 5); next } { inside = 0 }' "$work/try_it"
 }
-sed -n '/^```rust$/,/^```$/{/^```/d; s/^/    /; p}' "$top/README.md" | sed -n '/^        ensures/q; /^    pub fn/q; p' >"$work/first"
+sed -n '/^```rust$/,/^```$/{/^```/d; s/^/    /; p}' "$work/try_it" | sed -n '/^        ensures/q; /^    pub fn/q; p' >"$work/first"
 judge yes "$(grep -c . "$work/first" | grep -qx 10 && python3 -c 'import sys; sys.exit(open(sys.argv[1]).read() not in open(sys.argv[2]).read())' "$work/first" "$top/crates/first_map/src/main.rt" && echo yes || echo no)" "the first code of README.md is in first_map"
 judge "$(cat "$top/crates/first_map/stdout")" "$(block 1)" "what README.md says that it prints"
 
@@ -197,16 +198,29 @@ tells "a proof that fails" "an open goal" "blaze_int was not proved"
 # ---- Nothing proved, and the toolchain itself
 rm -r "$work/tree/crates/rangemap/out"
 sed -i '$d' "$work/tree/crates/blaze_int/src/lib.rt"
-# (a copy of the library for another repository, made twice)
+# (a copy of the library for another repository, made twice; the commands that the first run prints make and run a program over the copy,
+# here with the sources of first_map. The proof of all crates is left out)
 mkdir "$work/other"
 run "a copy of the library" 0 '' "$work/tree/tools/vendor" "$work/other"
-echo 'first_map: range_map_blaze' >>"$work/other/crates.txt"
-mkdir "$work/other/crates/first_map"
-cp -r "$top/crates/first_map/src" "$work/other/crates/first_map/"
+tells "a copy of the library" "the 6 crates"
+sed -n '/^    /{s///; s/ *# .*//; s/NAME/first_map/g; p}' "$work/told" >"$work/next"
+judge "rt new crates/first_map start_io && rm crates/first_map/BUILD.bazel
+echo 'first_map: range_map_blaze' >>crates.txt
+cd crates/first_map
+rt try <stdin
+rt check" "$(cat "$work/next")" "the commands behind a copy"
+{
+    sed '/^rt try/,$d' "$work/next"
+    echo 'rm -r src && cp -r "$0" src'
+    sed -n '/^rt try/p' "$work/next"
+} >"$work/steps"
+judge "$(cat "$top/crates/first_map/stdout")" "$(cd "$work/other" && bash -euc "$(cat "$work/steps")" "$top/crates/first_map/src" 2>"$work/told" | tail -n 4)" "first_map over the copy"
 run "a second copy" 0 '' "$work/tree/tools/vendor" "$work/other"
-judge "$(grep -E '^(blaze_(int|entries|table|streams|iters)|range_map_blaze|first_map):' "$top/crates.txt")" "$(cat "$work/other/crates.txt")" "the lines of the copy"
+judge "$(grep -E '^(blaze_(int|entries|table|streams|iters)|range_map_blaze):' "$top/crates.txt")
+first_map: range_map_blaze" "$(cat "$work/other/crates.txt")" "the lines of the copy"
 judge '' "$(cd "$work/other" && find . -name out -o -name wrong)" "what is not copied"
-run "first_map over the copy" 0 "$(cat "$top/crates/first_map/stdout")" env -C "$work/other/crates/first_map" rt try
+run "a copy of more" 0 '' "$work/tree/tools/vendor" "$work/other" range_map_multi
+tells "a copy of more" "echo 'NAME: range_map_multi' >>crates.txt" "the 7 crates"
 run "no such folder" 2 '' "$work/tree/tools/vendor" "$work/nowhere"
 run "an answer without a proof" 2 "$bad_answers" "$work/tree/rangemap" <"$work/bad"
 tells "an answer without a proof" "not proved yet" "line 2 is invalid: 'get 4 '" "not proved: built without a proof"
