@@ -64,6 +64,7 @@ impl<T: Integer, V: Eq> RangeMapBlaze<T, V> {
     /// gaps.next(); // Some(0..=9)
     /// gaps.next_back(); // Some(40..=50)
     /// ```
+    #[tactic(auto, unfolding(blaze_entries::specs::Canonical::IsRunStart, blaze_entries::specs::Canonical::IsRunEnd))]
     pub fn gaps<R: RangeBounds<T> + Drop>(&self, range: R) -> Gaps<'_, T, V>
         ensures within { R.has_bounds range → IsChosen unit_eq T.low T.high left_alone
             (one_range (start_rank T.rank T.low (R.start_bound range))

@@ -53,9 +53,11 @@ same_content : (es : List (Entry (String Global))) → at (word_entries es) ≡ 
 same_content es = fun_ext (at-words es)
 
 starts-words : (es : List (Entry (String Global))) (k : ℤ) → IsRunStart bytes_eq (at (word_entries es)) k ≡ IsRunStart string_eq (at es) k
+unfolding IsRunStart
 starts-words es k = ap (λ (content : ℤ → Option (List ℕ)). IsRunStart bytes_eq content k) (same_content es) ∙ runs-words (at es (k -ℤ pos 1)) (at es k)
 
 stops-words : (es : List (Entry (String Global))) (k : ℤ) → IsRunEnd bytes_eq (at (word_entries es)) k ≡ IsRunEnd string_eq (at es) k
+unfolding IsRunEnd
 stops-words es k = ap (λ (content : ℤ → Option (List ℕ)). IsRunEnd bytes_eq content k) (same_content es) ∙ ends-words (at es k) (at es (k +ℤ pos 1))
 
 both_ways : (A B C D : Type 0) → A ≡ B → C ≡ D → B ↔ D → A ↔ C

@@ -19,12 +19,14 @@ module _ (low high : ℤ) (es : List (Entry (String Global))) (k a b : ℤ) (v :
 
   -- no wider interval has the same word
   no_lower : (c d : ℤ) → c ≤ℤ k → k ≤ℤ d → IsSameFrom (content_of es) k c d → c <ℤ a → ⊥
+  unfolding IsRunStart
   no_lower c d l h same less =
       let start : IsRunStart string_eq (at es) a = (map.runs.starts a).0 (entry_starts k (entry a b v) es is) in
       let first : content_of es a ≡ content_of es k = same_here a (omega (arith, ints)) (omega (arith, ints, within)) in
       start.1 (alike_words (at es (a -ℤ pos 1)) (at es a) (same (a -ℤ pos 1) (omega (arith, ints)) (omega (arith, ints, within)) ∙ sym first))
 
   no_higher : (c d : ℤ) → c ≤ℤ k → k ≤ℤ d → IsSameFrom (content_of es) k c d → b <ℤ d → ⊥
+  unfolding IsRunEnd
   no_higher c d l h same more =
       let end : IsRunEnd string_eq (at es) b = (map.runs.ends b).0 (entry_ends k (entry a b v) es is) in
       let last : content_of es b ≡ content_of es k = same_here b (omega (arith, ints, within)) (omega (arith, ints)) in

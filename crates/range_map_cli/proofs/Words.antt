@@ -51,7 +51,8 @@ pub use Rattle.blaze_table.proofs.Pairs.Lasts.{painted_one}
 pub use Rattle.blaze_table.proofs.Pairs.PairLaws.{pairs_are_content}
 pub use Rattle.blaze_table.proofs.Sweeping.Canonicals.{few_painted}
 pub use Rattle.blaze_table.proofs.Walks.Worked.{counted_none, counted_then}
-pub use Rattle.blaze_entries.specs.Canonical.{IsRunStart, IsRunEnd, IsRangeMap, IsOnePerRun, IsDisjoint, IsAscending, IsClear, HasStart, HasEnd, AreKeys}
+unfoldable pub use Rattle.blaze_entries.specs.Canonical.{IsRunStart, IsRunEnd}
+pub use Rattle.blaze_entries.specs.Canonical.{IsRangeMap, IsOnePerRun, IsDisjoint, IsAscending, IsClear, HasStart, HasEnd, AreKeys}
 pub use Rattle.blaze_table.specs.CanonicalOf.{keyed_count}
 pub use Rattle.blaze_entries.specs.Chosen.{right_first, IsChosen, left_with_right, left_alone}
 pub use Rattle.blaze_entries.specs.Complement.{value_if_none, IsComplement}

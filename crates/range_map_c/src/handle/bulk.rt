@@ -167,6 +167,7 @@ pub extern "C" fn range_map_extend_unchecked(
 }
 
 // Paints the entries of another map, if they change anything. If an allocation fails, a first part of them is painted.
+#[tactic(auto, unfolding(blaze_entries::specs::Canonical::IsRunStart, blaze_entries::specs::Canonical::IsRunEnd))]
 fn extend_by(alloc: Global, map: &mut RangeMap, other: &RangeMapBlaze<i64, u64>) -> i32
     ensures status { IsStatus result }
     ensures ok { OnDone result (IsUnion nat_eq least_key greatest_key map.old.entries

@@ -163,6 +163,7 @@ pub extern "C" fn range_map_insert_unchecked(
 /// Removes every key from `lo` to `hi`, and writes whether the number of keys with a value changed. If an allocation fails, the map
 /// is unchanged. It allocates only if an entry with keys of the range continues above it. O(log n) for each of n entries that the
 /// range touches.
+#[tactic(auto, unfolding(blaze_entries::specs::Canonical::IsRunStart, blaze_entries::specs::Canonical::IsRunEnd))]
 #[unsafe(no_mangle)]
 pub extern "C" fn range_map_remove_range_unchecked(
     map: &mut RangeMap,
@@ -197,6 +198,7 @@ pub extern "C" fn range_map_remove_range_unchecked(
 
 /// Removes one key, and writes whether the key had a value, and that value. If an allocation fails, the map is unchanged. It
 /// allocates only if the entry of the key has other keys. O(log n) for n entries.
+#[tactic(auto, unfolding(blaze_entries::specs::Canonical::IsRunStart, blaze_entries::specs::Canonical::IsRunEnd))]
 #[unsafe(no_mangle)]
 pub extern "C" fn range_map_remove_unchecked(
     map: &mut RangeMap,

@@ -187,6 +187,7 @@ pub extern "C" fn range_map_subtract_unchecked(
 /// Leaves the keys of `a` below a key, and replaces `out` by the map of the others. If an allocation fails, both are unchanged. If
 /// no key from `key` on has a value, `a` is unchanged, and the call does not allocate. O(log n) for n entries, and O(1) for each
 /// entry of the smaller part.
+#[tactic(auto, unfolding(blaze_entries::specs::Canonical::IsRunStart, blaze_entries::specs::Canonical::IsRunEnd))]
 #[unsafe(no_mangle)]
 pub extern "C" fn range_map_split_off_unchecked(
     alloc: Global,

@@ -1,5 +1,5 @@
 -- Look-ups of an entry or a gap, each behind the one before.
-use Rattle.range_map_cli.proofs.Words.{◌≡◌, ℤ, pos, ◌+ℤ◌, ◌-ℤ◌, ◌≤ℤ◌, ◌<ℤ◌, Bool, List, [], ◌∷◌, Option, Some, None, ◌∙◌, sym, ap, arith, ints, by_lt_z, IsEquivalence, same_along, IsRangeMap, Entry, entry, at, entry_at, holds_in, holds_ends, AreRangesOrGapsFrom, CoverFrom, IsRangeOrGapAt, LookUpsCover, IsSameFrom, IsGreatestPiece}
+use Rattle.range_map_cli.proofs.Words.{◌≡◌, ℤ, pos, ◌+ℤ◌, ◌-ℤ◌, ◌≤ℤ◌, ◌<ℤ◌, Bool, List, [], ◌∷◌, Option, Some, None, ◌∙◌, sym, ap, arith, ints, by_lt_z, IsEquivalence, same_along, IsRangeMap, IsRunStart, IsRunEnd, Entry, entry, at, entry_at, holds_in, holds_ends, AreRangesOrGapsFrom, CoverFrom, IsRangeOrGapAt, LookUpsCover, IsSameFrom, IsGreatestPiece}
 use Rattle.blaze_entries.proofs.Canonical.EntryAt.{entry_holds, entry_starts, entry_ends, entry_keys, entry_value}
 
 module _ {V : Type 0} (eq : V → V → Bool) (laws : IsEquivalence eq) (low high : ℤ) (es : List (Entry V)) (map : IsRangeMap eq low high es) where
@@ -16,11 +16,13 @@ module _ {V : Type 0} (eq : V → V → Bool) (laws : IsEquivalence eq) (low hig
     within = holds_ends (entry a b v) k (entry_holds k (entry a b v) es is)
 
     no_lower : (c d : ℤ) → c ≤ℤ k → k ≤ℤ d → IsSameFrom (at es) k c d → c <ℤ a → ⊥
+    unfolding IsRunStart
     no_lower c d l h same less =
         ((map.runs.starts a).0 (entry_starts k (entry a b v) es is)).1
         (same_along eq (sym (same (a -ℤ pos 1) (omega (arith, ints, less)) (omega (arith, ints, h, within.0)) ∙ value_from k within.0 within.1)) (sym (value_from a (omega (arith, ints)) (omega (arith, ints, within.0, within.1)))) (laws.refl v))
 
     no_higher : (c d : ℤ) → c ≤ℤ k → k ≤ℤ d → IsSameFrom (at es) k c d → b <ℤ d → ⊥
+    unfolding IsRunEnd
     no_higher c d l h same more =
         ((map.runs.ends b).0 (entry_ends k (entry a b v) es is)).1
         (same_along eq (sym (value_from b (omega (arith, ints, within.0, within.1)) (omega (arith, ints)))) (sym (same (b +ℤ pos 1) (omega (arith, ints, l, within.1)) (omega (arith, ints, more)) ∙ value_from k within.0 within.1)) (laws.refl v))
