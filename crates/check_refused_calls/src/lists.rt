@@ -17,6 +17,7 @@ fn clone(rt: &HostRuntime, table: &Words) {
 }
 
 /// Builds a table from a canonical list of two entries.
+#[tactic(auto, unfolding(blaze_entries::specs::Canonical::IsRunStart, blaze_entries::specs::Canonical::IsRunEnd))]
 fn from_canonical(rt: &HostRuntime) -> Result<(), AllocError> {
     let entries = vec![in rt.alloc(); (0i32, 3i32, 'a'), (4, 4, 'b')]?;
     begin(rt, "from_canonical");
