@@ -51,6 +51,7 @@ impl<T: Integer, V: Drop> Iterator for IntoIter<T, V> {
 
     ghost remaining = { item_count (λ s. s) };
 
+    #[inline(never)]
     fn next(&mut self) -> Option<(T, T, V)> {
         given(self.rest.next())
     }
@@ -69,6 +70,7 @@ impl<T: Integer, V: Drop> Iterator for IntoIter<T, V> {
 impl<T: Integer, V: Drop> DoubleEndedIterator for IntoIter<T, V> {
     ghost next_back_gives = { YieldsLastBy (shown_entry T.rank (λ v. v)) (λ s. s) };
 
+    #[inline(never)]
     fn next_back(&mut self) -> Option<(T, T, V)> {
         given(self.rest.next_back())
     }

@@ -153,7 +153,7 @@ impl Integer for i64 {
     }
 
     fn safe_len(r: &RangeInclusive<i64>) -> u128 {
-        range_length(*r.start(), *r.end())
+        (r.end().wrapping_sub(*r.start()).cast_unsigned() as u128) + 1
     }
 
     ghost ranked = { signed-ranked (2 ^ 63 - 1) };

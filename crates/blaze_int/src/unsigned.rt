@@ -153,7 +153,7 @@ impl Integer for u64 {
     }
 
     fn safe_len(r: &RangeInclusive<u64>) -> u128 {
-        range_length(*r.start(), *r.end())
+        ((*r.end() - *r.start()) as u128) + 1
     }
 
     ghost ranked = { unsigned-ranked (2 ^ 64 - 1) };
