@@ -4,6 +4,7 @@
 
 pub mod allocator;
 pub mod bookings;
+pub mod counts;
 pub mod each_key;
 pub mod generic;
 pub mod loops;

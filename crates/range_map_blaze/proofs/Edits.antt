@@ -1,4 +1,5 @@
 pub mod Asked
+pub mod Given
 pub mod Applied
 pub mod Pieces
 pub mod ByKeys

@@ -1,5 +1,5 @@
 -- Keys that two lists share, and keys of one list that the other has, where both are gone through together.
-use Rattle.range_map_blaze.proofs.Words.{some_is_not, ◌≡◌, ℕ, ◌+◌, ◌<◌, ℤ, pos, ◌+ℤ◌, ◌≤ℤ◌, ◌<ℤ◌, Bool, true, false, List, [], ◌∷◌, Option, Some, None, refl, ◌∙◌, sym, subst, arith, inl, inr, ⊎_elim, option_map, ◌⊎◌, ◌↔◌, IsSome, IsTrue, ints, by_lt_z, range_in, first_entry, IsCanonical, Entry, at, after, at_in, at-after_over, IsFrom, lengths_left, all_less, at-after_under, at_below_from, ends, ShareNoKey, HasKeysOf}
+use Rattle.range_map_blaze.proofs.Words.{some_is_not, ◌≡◌, ℕ, ◌+◌, ◌<◌, ℤ, pos, ◌+ℤ◌, ◌≤ℤ◌, ◌<ℤ◌, Bool, true, false, List, [], ◌∷◌, Some, None, refl, ◌∙◌, sym, subst, arith, inl, inr, ⊎_elim, option_map, ◌⊎◌, ◌↔◌, IsSome, IsTrue, ints, by_lt_z, range_in, first_entry, IsCanonical, Entry, at, after, at_in, at-after_over, IsFrom, lengths_left, all_less, at-after_under, at_below_from, ends, ShareNoKey, HasKeysOf}
 
 -- ---- lists by the ends of their first ranges
 

@@ -1,5 +1,5 @@
 -- What lookups return, in plain words: the entry at a key, the nearest entries, and the gap around a key.
-use Rattle.range_map_blaze.proofs.Words.{◌≡◌, ◌⊎◌, ◌↔◌, ℤ, pos, ◌+ℤ◌, ◌-ℤ◌, ◌≤ℤ◌, ◌<ℤ◌, Bool, List, [], ◌∷◌, ◌++◌, Option, Some, None, refl, ◌∙◌, sym, subst, ap, arith, ints, inl, inr, int_le, find, option_map, option_or, IsSome, Contains, IsEquivalence, StartsAscend, last_below, Entry, entry, at, entry_at, SameOption, IsCanonical, IsRangeMap, IsRun, IsGap, IsClearFrom, IsChosen, left_alone, one_range, unit_eq, shown_range, same_Some, some_none, canonical, starts_ascend, at_append, at_in, at_over, at_under, at_before, at_past, entry_place, entry_run, member_run, walked_run, is_none_by, Bor}
+use Rattle.range_map_blaze.proofs.Words.{◌≡◌, ◌⊎◌, ℤ, pos, ◌+ℤ◌, ◌-ℤ◌, ◌≤ℤ◌, ◌<ℤ◌, Bool, List, [], ◌∷◌, Option, Some, None, refl, ◌∙◌, sym, subst, ap, arith, ints, inl, inr, int_le, find, option_map, option_or, IsSome, Contains, IsEquivalence, StartsAscend, last_below, Entry, entry, at, entry_at, SameOption, IsCanonical, IsRangeMap, IsRun, IsGap, IsClearFrom, IsChosen, left_alone, one_range, unit_eq, shown_range, same_Some, some_none, canonical, starts_ascend, at_append, at_in, at_over, at_under, at_before, at_past, entry_place, entry_run, member_run, walked_run, is_none_by, Bor}
 use Rattle.std.specs.Prelude.{IfSome, MatchOption}
 use Rattle.std.specs.Option.{option_copied}
 use Rattle.std.specs.Range.{range_inclusive_start, range_inclusive_end}

@@ -127,5 +127,5 @@ pub use Rattle.range_map_blaze.specs.TryLaws.{ReturnsInOk, TryIsPlain}
 pub use Rattle.range_map_blaze.specs.Underway.{are_one_pair, joined_pair, IsUnderway}
 pub use Rattle.range_map_blaze.specs.Union.{IsUnion}
 pub use Rattle.range_map_blaze.specs.UpdateLaws.{changed, AreGivenBy, UpdatingIsByKeys, PartUpdatingIsByKeys, InsertingIsUpdating, InsertingAbsentIsUpdating, RemovingIsUpdating}
-pub use Rattle.range_map_blaze.specs.Updated.{answer_or, updated, changes, AreAnswersAtPieces, AreApartFrom, IsCallableAtPieces, IsPartUpdated, IsUpdated, KeepsValue, KeepsValues}
+pub use Rattle.range_map_blaze.specs.Updated.{answer_or, updated, changes, AreAnswersAtPieces, AreApartFrom, Gives, IsCallableAtPieces, IsPartUpdated, IsUpdated, KeepsValue, KeepsValues}
 pub use Rattle.range_map_blaze.specs.Within.{within, gaps_within, cut_each, cut_to, gaps_left, AreKeysFrom, IsUpTo, IsAcross, IsGapWalk}

@@ -1,5 +1,5 @@
 -- The keys of a range removed from a map: the map without them, and the map of them.
-use Rattle.std.specs.Prelude.{◌≡◌, ◌⊎◌, ℤ, ◌≤ℤ◌, ◌<ℤ◌, Bool, List, [], Option, None}
+use Rattle.std.specs.Prelude.{◌≡◌, ◌⊎◌, ℤ, ◌≤ℤ◌, ◌<ℤ◌, Bool, List, [], None}
 use Rattle.blaze_entries.specs.Chosen.{left_with_right, IsChosen}
 use Rattle.blaze_entries.specs.Cut.{IsRangeCut}
 use Rattle.blaze_entries.specs.Entries.{Entry, at, SameOption}

@@ -1,6 +1,6 @@
 -- A range changed by a function: the pieces at which it is called, and the map afterwards.
 use Rattle.std.specs.declared.alloc.AllocError.{AllocError}
-use Rattle.std.specs.Fn.{Mut}
+use Rattle.std.specs.Fn.{Mut, Called}
 use Rattle.std.specs.List.{Contains, FoldsTo}
 use Rattle.std.specs.Option.{option_eq}
 use Rattle.std.specs.Prelude.{◌≡◌, ◌⊎◌, ℤ, ◌≤ℤ◌, ◌<ℤ◌, int_le, if◌then◌else◌, Bool, true, List, [], ◌∷◌, map, Option, Some, None, Result, Ok, Err}
@@ -40,6 +40,11 @@ IsSteady eq old (Ok answer) = option_eq eq answer old ≡ true
 IsSteady eq old (Err e) = ⊥
 
 -- `shows` gives the list's value that the arguments of a call stand for
+module _ {F A V : Type 0} (shows : A → Option V) (g : Mut F A (Result (Option V) AllocError)) where
+  -- each call leaves the function as it is, and one with this old value returns the new one
+  abbrev pub Gives : F → Option V → Option V → Type 0
+  Gives f old new = (arguments : A) (r : Result (Option V) AllocError) (f' : F) → Called g f arguments r f' → (f' ≡ f) × (shows arguments ≡ old → r ≡ Ok new)
+
 module _ {F A V : Type 0} (shows : A → Option V) (g : Mut F A (Result (Option V) AllocError)) (eq : V → V → Bool) where
   -- each call of f with this old value returns an equal one
   abbrev pub KeepsValue : F → Option V → Type 0
@@ -64,13 +69,15 @@ module _ {F A V : Type 0} (shows : A → Option V) (g : Mut F A (Result (Option 
     pub answers_are : answers ≡ entries_with_results pieces results
 
   module _ (low high l h : ℤ) (f : F) (old new : List (Entry V)) where
-    -- Each piece has the result of the function there, and each key outside the range its old value. An entry that no changed
-    -- piece overlaps, or is one run with, remains with its very value. If every result equals the old value, nothing changes.
+    -- Each piece has the result of the function there, and each key outside the range its old value. If the function has no state,
+    -- each key of the range has what it returns for the key's old value. An entry that no changed piece overlaps, or is one run
+    -- with, remains with its very value. If every result equals the old value, nothing changes.
     pub record IsUpdated : Type 0 where
       pub answers : List (Entry (Option V))
       pub asked : AreAnswersAtPieces l h f old answers
       pub range_map : IsRangeMap eq low high new
       pub content : (k : ℤ) → SameOption eq (at new k) (updated answers (at old) k)
+      pub inside : (k : ℤ) → l ≤ℤ k → k ≤ℤ h → (value : Option V) → Gives shows g f (at old k) value → SameOption eq (at new k) value
       pub outside : (k : ℤ) → (k <ℤ l) ⊎ (h <ℤ k) → SameOption eq (at new k) (at old k)
       pub kept : (e : Entry V) → Contains old e → AreApartFrom eq (changes eq asked.pieces answers) e → Contains new e
       pub same : SameEntries (option_eq eq) answers asked.pieces → new ≡ old

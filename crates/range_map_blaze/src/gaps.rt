@@ -91,7 +91,7 @@ impl<T: Integer, V: Eq> RangeMapBlaze<T, V> {
     }
 }
 
-// The gaps of a table within the range from `start` up to `end`, which are found when they are given.
+// The gaps of a table within the range from `start` up to `end`, which are computed by `next`.
 fn gaps_on<T: Integer, V: Eq>(table: &RangeTable<T, V>, start: T, end: T) -> Gaps<'_, T, V>
     requires { T.rank start ≤ℤ T.rank end }
     ensures { IsChosen unit_eq T.low T.high left_alone (one_range (T.rank start) (T.rank end))

@@ -234,7 +234,7 @@ impl<T: Integer, V: Eq> RangeMapBlaze<T, V> {
     }
 }
 
-// The range and the value of an entry, for users; the table gives first key, last key and value.
+// Converts an entry of the table, its first key, last key and value, to a range and a value.
 fn range_of<T: Integer, V>(found: Option<(T, T, &V)>) -> Option<(RangeInclusive<T>, &V)>
     ensures entry { option_map (shown_range T.rank (λ v. v.now)) result
         ≡ option_map (shown_entry T.rank (λ v. v.now)) found.entry }

@@ -154,8 +154,7 @@ impl<T: Integer, V: Eq> RangeMapBlaze<T, V> {
         SeekingRangeValuesIter::new(&self.table)
     }
 
-    // The map without its counts. A call that makes a map out of an owned one ends with it, since its contract says that nothing
-    // is counted yet.
+    // Resets the counters. Each call that makes its result of an owned map ends with this.
     pub(crate) fn uncounted(self) -> Self
         ensures { result ≡ uncounted self.entries }
     {
@@ -164,7 +163,7 @@ impl<T: Integer, V: Eq> RangeMapBlaze<T, V> {
         }
     }
 
-    // A new map allocates where this one does.
+    // Returns the allocator of this map, for new maps.
     pub(crate) fn allocator(&self) -> Global {
         self.table.allocator()
     }

@@ -49,7 +49,7 @@ pub extern "C" fn range_map_compare_unchecked(
     }
 }
 
-// Whether a map has the same content as one that C holds. That one stays.
+// Returns whether `left` and `right` have the same content. `right` is unchanged.
 fn is_equal_to(alloc: Global, left: &RangeMapBlaze<i64, u64>, right: &mut RangeMap) -> bool
     ensures content { IsTrue result ↔ SameContent nat_eq left.now.entries right.old.entries }
     ensures kept { right.new.entries ≡ right.old.entries }
@@ -59,7 +59,7 @@ fn is_equal_to(alloc: Global, left: &RangeMapBlaze<i64, u64>, right: &mut RangeM
     left.eq(map_or(right.as_ref(), &empty))
 }
 
-// How a map compares with one that C holds. That one stays.
+// Returns how `left` compares with `right`. `right` is unchanged.
 fn compared_with(alloc: Global, left: &RangeMapBlaze<i64, u64>, right: &mut RangeMap) -> Ordering
     ensures order { result ≡ pairs_cmp nat_cmp left.now.entries right.old.entries }
     ensures kept { right.new.entries ≡ right.old.entries }

@@ -113,7 +113,7 @@ pub extern "C" fn range_map_find_last_gap_unchecked(
     }
 }
 
-// Whether at least `length` keys lie from `from` to `to`.
+// Returns whether `from..=to` has at least `length` keys.
 fn fits(from: i64, to: i64, length: u64) -> bool
     requires order { from ≤ℤ to }
     requires some { 0 < length }
@@ -187,7 +187,7 @@ fn last_gap(map: &RangeMapBlaze<i64, u64>, from: i64, to: i64, length: u64) -> O
     }
 }
 
-// The first of the `length` keys that end at `last`, which lie from `from` on.
+// Returns the first of the `length` keys that end at `last`. None of them is below `from`.
 fn first_of_last(from: i64, last: i64, length: u64) -> i64
     requires some { 0 < length }
     requires fits { (from +ℤ pos length) ≤ℤ (last +ℤ pos 1) }

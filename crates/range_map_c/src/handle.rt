@@ -71,7 +71,7 @@ impl Drop for RangeMap {
 }
 
 impl RangeMap {
-    // Makes an empty map, which has no memory.
+    // Makes an empty map. Does not allocate.
     fn none(alloc: Global) -> RangeMap
         ensures empty { result.entries ≡ [] }
         ensures nothing { result.at ≡ null_ptr }
@@ -200,7 +200,7 @@ fn boxed_map(map: RangeMapBlaze<i64, u64>, alloc: Global) -> Result<Box<Map>, Al
     }
 }
 
-// Replaces another map by one that was made. If an allocation fails, that one is unchanged. The empty map does not allocate.
+// Stores `made` in `out`, and frees what `out` had. If an allocation fails, `out` is unchanged. An empty map does not allocate.
 fn hand_out(
     made: Result<RangeMapBlaze<i64, u64>, AllocError>,
     out: &mut RangeMap,

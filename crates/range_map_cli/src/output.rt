@@ -9,7 +9,7 @@ use std::io::Write;
 #[derive(Debug, Drop)]
 pub struct WriteFailed;
 
-/// Writes all of the text. If it fails, a first part of it was written, perhaps nothing, but not all.
+/// Writes all of the text. If it fails, a proper prefix was written, perhaps an empty one.
 pub fn write_text<W: Write>(output: &mut W, text: &[u8]) -> Result<(), WriteFailed>
     ensures ok { OnOk result (Appends (W.contents output.old) (W.contents output.new) text.now) }
     ensures err { OnErr result (Stops (W.contents output.old) (W.contents output.new) text.now) }

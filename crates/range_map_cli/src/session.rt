@@ -29,7 +29,7 @@ pub const NO_MEMORY: &[u8] = b"out of memory\n";
 #[derive(Drop)]
 pub struct Session {
     map: RangeMapBlaze<i64, String>,
-    /// How many lines were answered; it stays at 2^64 - 1.
+    /// How many lines were answered. It saturates at 2^64 - 1.
     number: u64,
     /// The first bytes of a line whose end was not read yet.
     line: Line,
@@ -111,7 +111,7 @@ pub fn close<W: Write>(waiting: &mut Vec<u8>, output: &mut W, text: &[u8], end: 
     end
 }
 
-/// Answers a line, and appends the answer to the others. The kept bytes of a line stay.
+/// Answers a line, and appends the answer to the others. The buffered start of a line is unchanged.
 fn answer_line<W: Write>(
     session: &mut Session,
     alloc: Global,

@@ -52,7 +52,7 @@ fn pop_last<T: Integer, V: Eq + Clone>(
     Ok(popped)
 }
 
-/// The map that a step makes of this map and another, of this map and a set, or by `complement_with`.
+/// Returns the map after a step that combines it with another map or a set, or complements it.
 fn combined<T: Integer, V: Eq + Clone>(
     map: &RangeMapBlaze<T, V>,
     step: Step<T, V>,

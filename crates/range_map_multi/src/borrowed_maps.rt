@@ -1,4 +1,4 @@
-//! Many borrowed maps, in a list of maps or of references to maps. The maps show that the keys outlive the borrow. Code that is
+//! Many borrowed maps, in a list of maps or of references to maps. The borrow checker learns from the maps that the keys outlive the borrow. Code that is
 //! generic over keys needs this where it calls a function of streams.
 ghost use Rattle.std.specs.Prelude.{◌≡◌, List, map, refl, IfOk};
 ghost use Rattle.blaze_entries.specs.Entries.{Entry};

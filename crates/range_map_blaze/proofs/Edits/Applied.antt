@@ -1,6 +1,7 @@
 -- Edits made one after another, and what a range map has once they are made, all of them or a first part.
 use Rattle.range_map_blaze.proofs.Words.{AllocError, ◌≡◌, ◌⊎◌, ℤ, pos, ◌+ℤ◌, ◌-ℤ◌, ◌≤ℤ◌, ◌<ℤ◌, Bool, cond, List, [], ◌∷◌, ◌++◌, Option, Some, None, Result, Ok, Err, OnOk, OnErr, refl, ◌∙◌, sym, ap, subst, arith, inl, inr, ints, by_lt_z, IsEquivalence, options_equiv, Mut, option_eq, option_or, le_true, le_false, same_along, same_itself, same_trans, or_none, IsCanonical, IsRangeMap, AreKeys, HasEnd, IsRangeCut, Entry, entry, at, holds, SameOption, IsPainted, IsBelow, IsAbove, IsAbove-from_apart, above_low, at_append, at_before, holds_in, holds_under, holds_over, at_in, at_under, at_over, by_place, canonical, one_per_run, ends_below, at_past, AreEdits, AreEdited, AreEndsOf, IsEdited, IsPartEdited, IsUpdatedSomewhere, answer_or, updated, changes, AreApartFrom, IsApartFrom, IsPartUpdated, IsUpdated}
 use Rattle.range_map_blaze.proofs.JoinedKeys.{below_all, above_all}
+use Rattle.range_map_blaze.proofs.Edits.Given.{answer_at}
 
 module _ {V : Type 0} (eq : V → V → Bool) (laws : IsEquivalence eq) (low high : ℤ) where
   -- ---- one edit
@@ -105,6 +106,8 @@ module _ {V : Type 0} (eq : V → V → Bool) (laws : IsEquivalence eq) (low hig
       asked = a.asked;
       range_map = d.range_map;
       content = λ k. same_trans eq laws (at new k) (updated edits (at old) k) (updated a.answers (at old) k) (d.content k) (a.content k);
+      inside = λ k u v value gives. same_along eq refl (ap (λ o. answer_or o (at old k)) (answer_at shows g eq l h f old a.answers a.asked k u v value gives))
+          (same_trans eq laws (at new k) (updated edits (at old) k) (updated a.answers (at old) k) (d.content k) (a.content k));
       outside = λ k u. outside_edits l h k edits old new a.range_map.keys u (d.content k);
       kept = λ e i u. d.kept e i (a.apart e i u);
       same = λ s. d.none (a.same s);
@@ -169,6 +172,7 @@ module _ {V : Type 0} (eq : V → V → Bool) (laws : IsEquivalence eq) (low hig
       };
       range_map = r;
       content = λ k. same_itself eq laws (at old k);
+      inside = λ k u v value gives. absurd (omega (arith, ints));
       outside = λ k u. same_itself eq laws (at old k);
       kept = λ e i u. i;
       same = λ s. refl;

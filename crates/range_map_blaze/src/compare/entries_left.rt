@@ -1,4 +1,4 @@
-//! The tail of a table's entries: those that a comparison has not passed.
+//! The tail of a table's entries: those that a comparison has not compared yet.
 ghost use Rattle.std.specs.Prelude.{◌≡◌, [], IfNone, slice_get};
 ghost use Rattle.std.specs.Option.{option_map};
 ghost use Rattle.blaze_entries.specs.Canonical.{IsCanonical};

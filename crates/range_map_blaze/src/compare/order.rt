@@ -16,7 +16,7 @@ use blaze_int::compare::lesser;
 use blaze_table::RangeEntry;
 use std::cmp::Ordering;
 
-// How the first pairs of two entries compare.
+// Compares the first pairs of two entries.
 fn compare_starts<T: Integer, V: Ord>(start: T, value: &V, other_start: T, other: &V) -> Ordering
     ensures { result ≡ ordering_then (int_cmp (T.rank start) (T.rank other_start))
         (V.cmp value.now other.now) }
@@ -30,7 +30,7 @@ fn compare_starts<T: Integer, V: Ord>(start: T, value: &V, other_start: T, other
     }
 }
 
-// How the first pairs of two entries compare, and the last key of the entry that ends first.
+// Compares the first pairs of two entries. Returns the order, and the last key of the entry that ends first.
 fn compare_first<T: Integer, V: Ord>(
     left: RangeEntry<T, &V>,
     other: RangeEntry<T, &V>,

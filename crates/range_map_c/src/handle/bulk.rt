@@ -17,7 +17,7 @@ use range_map_blaze::RangeMapBlaze;
 use std::alloc::{AllocError, Global};
 use std::ops::RangeInclusive;
 
-// A map with so many entries for each range is painted range by range, and one with fewer by one pass.
+// A map with at least this many entries for each range is painted range by range, and another map by one pass.
 const ENTRIES_A_RANGE: usize = 16;
 
 /// Paints the ranges of a table in order: a later row replaces an earlier one, and a row whose first key is above its last has no

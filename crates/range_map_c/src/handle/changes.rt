@@ -226,7 +226,7 @@ pub extern "C" fn range_map_remove_unchecked(
     }
 }
 
-/// Writes a value, if there is one, and whether there is.
+/// Writes the value, if there is one, and whether there is one.
 pub fn tell(found: Option<u64>, had: &mut bool, value: &mut u64)
     ensures { told had.new value.new ≡ found }
 {

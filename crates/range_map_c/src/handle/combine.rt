@@ -14,7 +14,7 @@ use std::alloc::{AllocError, Global};
 /// The greatest number of an operation: the old value.
 const KEEP_OLD: u32 = 6;
 
-/// The place for all keys of a range: those without a value get the given one.
+/// `place`: all keys of the range change. A key without a value gets the given one.
 const ALL: u32 = 0;
 
 /// The place for the keys of a range that have a value.
@@ -113,7 +113,7 @@ fn combine(
     map.ranges_update(lo..=hi, |old| Ok(combined_with(old, value, op, place)))
 }
 
-// The value of a key afterwards, by its value before.
+// Returns a key's new value, given its old one.
 fn combined_with(old: Option<&u64>, value: u64, op: u32, place: u32) -> Option<u64>
     ensures { result ≡ combined op place value (shown_option (λ v. v.now) old.entry) }
 {
@@ -124,7 +124,7 @@ fn combined_with(old: Option<&u64>, value: u64, op: u32, place: u32) -> Option<u
     }
 }
 
-// The old value and the given one by an operation.
+// Applies the operation to the old value and the given one.
 fn operated_on(old: u64, value: u64, op: u32) -> u64
     ensures { result ≡ operated op old value }
 {

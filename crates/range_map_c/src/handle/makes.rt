@@ -10,7 +10,7 @@ use range_map_blaze::RangeMapBlaze;
 use std::alloc::Global;
 use std::mem;
 
-/// Makes the struct an empty map, which has no memory. What it contained is not read and not freed. O(1).
+/// Makes the struct an empty map. Does not allocate. What the struct contained is not read and not freed. O(1).
 #[unsafe(no_mangle)]
 pub extern "C" fn range_map_new(alloc: Global, map: &mut RangeMap)
     ensures empty { map.new.entries ≡ [] }

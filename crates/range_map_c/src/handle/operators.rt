@@ -241,7 +241,7 @@ fn split_map(alloc: Global, map: &mut RangeMapBlaze<i64, u64>, key: i64, out: &m
     }
 }
 
-// The union of a map with one that C holds. That one stays.
+// Returns the union of `left` and `right`. `right` is unchanged.
 fn union_with(
     alloc: Global,
     left: &RangeMapBlaze<i64, u64>,
@@ -255,7 +255,7 @@ fn union_with(
     left | map_or(right.as_ref(), &empty)
 }
 
-// The intersection of a map with one that C holds. That one stays.
+// Returns the intersection of `left` and `right`. `right` is unchanged.
 fn intersection_with(
     alloc: Global,
     left: &RangeMapBlaze<i64, u64>,
@@ -270,7 +270,7 @@ fn intersection_with(
     left & map_or(right.as_ref(), &empty)
 }
 
-// The difference of a map and one that C holds. That one stays.
+// Returns the difference of `left` and `right`. `right` is unchanged.
 fn difference_with(
     alloc: Global,
     left: &RangeMapBlaze<i64, u64>,
@@ -285,7 +285,7 @@ fn difference_with(
     left - map_or(right.as_ref(), &empty)
 }
 
-// Whether no key has a value in both a map and one that C holds. That one stays.
+// Returns whether no key has a value in both `left` and `right`. `right` is unchanged.
 fn is_disjoint_from(alloc: Global, left: &RangeMapBlaze<i64, u64>, right: &mut RangeMap) -> bool
     ensures apart { IsTrue result ↔ ShareNoKey left.now.entries right.old.entries }
     ensures kept { right.new.entries ≡ right.old.entries }
@@ -295,7 +295,7 @@ fn is_disjoint_from(alloc: Global, left: &RangeMapBlaze<i64, u64>, right: &mut R
     left.is_disjoint(map_or(right.as_ref(), &empty))
 }
 
-// Whether each entry of a map is inside an entry, with the same value, of one that C holds. That one stays.
+// Returns whether each entry of `left` is inside an entry of `right` with the same value. `right` is unchanged.
 fn is_inside_map(alloc: Global, left: &RangeMapBlaze<i64, u64>, right: &mut RangeMap) -> bool
     ensures inside { IsTrue result ↔ AreInside nat_eq left.now.entries right.old.entries }
     ensures kept { right.new.entries ≡ right.old.entries }
@@ -305,7 +305,7 @@ fn is_inside_map(alloc: Global, left: &RangeMapBlaze<i64, u64>, right: &mut Rang
     has_entries_of(map_or(right.as_ref(), &empty), left)
 }
 
-// The symmetric difference of a map and one that C holds. That one stays.
+// Returns the symmetric difference of `left` and `right`. `right` is unchanged.
 fn symmetric_difference_with(
     alloc: Global,
     left: &RangeMapBlaze<i64, u64>,

@@ -1,5 +1,5 @@
 use Rattle.std.proofs.Common.{rules}
-use Rattle.range_map_blaze.proofs.Words.{◌≡◌, ℕ, ℤ, List, [], sym, ap, pos, ◌∙◌, subst, arith, ints, Entry, at, mapped_keys, IsClearFrom, count_clear}
+use Rattle.range_map_blaze.proofs.Words.{◌≡◌, ℕ, ℤ, List, [], sym, ap, pos, ◌∙◌, arith, ints, Entry, at, mapped_keys, IsClearFrom, count_clear}
 use Rattle.range_map_blaze.proofs.CutEach.{none_within, none_between}
 use Rattle.range_map_blaze.proofs.map.RangeMapBlaze.len_within.Goals as goal
 

@@ -1,5 +1,5 @@
 use Rattle.std.proofs.Common.{rules}
-use Rattle.range_map_blaze.proofs.Words.{◌≡◌, ◌∙◌, sym, arith, ints, overlap_clear}
+use Rattle.range_map_blaze.proofs.Words.{◌∙◌, sym, arith, ints, overlap_clear}
 use Rattle.range_map_blaze.proofs.map.RangeMapBlaze.overlapping.Goals as goal
 
 pub returns-in-Some-clause-within : goal.returns-in-Some-clause-within

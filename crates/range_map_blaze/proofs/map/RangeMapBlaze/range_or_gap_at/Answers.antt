@@ -1,5 +1,5 @@
 use Rattle.std.proofs.Common.{rules}
-use Rattle.range_map_blaze.proofs.Words.{◌≡◌, sym, subst, Some, None, range_inclusive_start, range_inclusive_end, shown_entry, entry, entry_at, at, IsGap}
+use Rattle.range_map_blaze.proofs.Words.{◌≡◌, sym, subst, Some, None, range_inclusive_end, at, IsGap}
 use Rattle.range_map_blaze.proofs.Told.{piece_holds, piece_run, piece_below, piece_above}
 use Rattle.range_map_blaze.proofs.map.RangeMapBlaze.range_or_gap_at.Goals as goal
 
