@@ -29,4 +29,11 @@ impl Count {
     {
         Count { seal: () }
     }
+
+    /// Returns the count plus `n`.
+    pub fn plus(&self, n: usize) -> Count
+        ensures { result.number ≡ self.now.number + n }
+    {
+        Count { seal: () }
+    }
 }

@@ -7,3 +7,4 @@ pub mod RangeCuts
 pub mod Splitting
 pub mod SplitEdits
 pub mod Splits
+pub mod Parts

@@ -12,3 +12,4 @@ pub mod Pieces
 pub mod PairValue
 pub mod Filled
 pub mod Filling
+pub mod Sides

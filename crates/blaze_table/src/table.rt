@@ -13,6 +13,7 @@ mod cut;
 mod fill;
 mod gaps;
 mod paint;
+mod part;
 mod retain;
 mod search;
 mod split;

@@ -18,6 +18,7 @@ pub mod Edits
 pub mod TryLaws
 pub mod SharedKeys
 pub mod TakenBack
+pub mod PartsTaken
 pub mod Told
 pub mod Facts
 pub mod Listed

@@ -48,4 +48,5 @@ pub mod UpdateLaws
 pub mod TryLaws
 pub mod Relations
 pub mod KeysTaken
+pub mod FreeSides
 pub mod Words

@@ -27,6 +27,13 @@ impl<T: Integer, V> Counted<T, V> {
     {
         self.tree.set_last_end(end);
     }
+
+    /// Counts `n` removed entries. It changes only the counter. A split removes its entries without a count.
+    pub fn count_removed(&mut self, n: usize)
+        ensures { self.new ≡ record self.old { taken_out = self.old.taken_out + n } }
+    {
+        self.taken_out = self.taken_out.plus(n);
+    }
 }
 
 impl<T: Integer, V: Drop> Counted<T, V> {

@@ -12,6 +12,7 @@ use crate::counted::Counted;
 use crate::tree::Tree;
 use blaze_int::Integer;
 use std::alloc::AllocError;
+use std::mem::swap;
 use std::ops::RangeInclusive;
 
 impl<T: Integer, V> Entries<T, V> {
@@ -29,6 +30,14 @@ impl<T: Integer, V> Entries<T, V> {
             counted: Counted::new(tree),
             alloc: self.alloc,
         })
+    }
+
+    /// Exchanges the entries of `self` and `other`. The counters of both do not change. It allocates nothing. O(1).
+    pub fn exchange(&mut self, other: &mut Self)
+        ensures here { self.new.counted ≡ record self.old.counted { entries = other.old.counted.entries } }
+        ensures there { other.new.counted ≡ record other.old.counted { entries = self.old.counted.entries } }
+    {
+        swap(&mut self.counted.tree, &mut other.counted.tree);
     }
 }
 

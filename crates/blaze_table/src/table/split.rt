@@ -10,6 +10,7 @@ ghost use Rattle.blaze_entries.specs.Cut.{IsSplit};
 ghost use Rattle.blaze_table.specs.LastBelow.{IsLastBelow};
 ghost use Rattle.blaze_entries.specs.Painted.{ClonesAreAlike};
 ghost use Rattle.blaze_entries.specs.Splice.{IsSplitOf};
+ghost use Rattle.blaze_table.specs.Sides.{AreKeptFrom};
 
 use super::RangeTable;
 use crate::count::count;
@@ -43,6 +44,8 @@ fn split_across<T: Integer, V: Eq + Clone>(
     requires reaches { T.rank key ≤ℤ T.rank ends.end }
     ensures split { IfOk result (λ from. IsSplitOf V.eq
         (T.rank key) entries.old.counted.entries entries.new.counted.entries from.counted.entries) }
+    ensures kept { IfOk result (λ from. AreKeptFrom (T.rank key)
+        entries.old.counted.entries from.counted.entries) }
     ensures same { IfOk result
         (λ from. (entries.new.counted ≡ record entries.old.counted { entries = entries.new.counted.entries })
         × (from.counted ≡ uncounted from.counted.entries)) }
@@ -64,7 +67,7 @@ fn split_across<T: Integer, V: Eq + Clone>(
 }
 
 // Splits the entries at a key.
-fn split_at<T: Integer, V: Eq + Clone>(
+pub(super) fn split_at<T: Integer, V: Eq + Clone>(
     entries: &mut Entries<T, V>,
     key: T,
 ) -> Result<Entries<T, V>, AllocError>
@@ -72,6 +75,8 @@ fn split_at<T: Integer, V: Eq + Clone>(
     requires canonical { IsCanonical V.eq entries.old.counted.entries }
     ensures split { IfOk result (λ from. IsSplitOf V.eq
         (T.rank key) entries.old.counted.entries entries.new.counted.entries from.counted.entries) }
+    ensures kept { IfOk result (λ from. AreKeptFrom (T.rank key)
+        entries.old.counted.entries from.counted.entries) }
     ensures same { IfOk result
         (λ from. (entries.new.counted ≡ record entries.old.counted { entries = entries.new.counted.entries })
         × (from.counted ≡ uncounted from.counted.entries)) }
@@ -85,7 +90,7 @@ fn split_at<T: Integer, V: Eq + Clone>(
 }
 
 // Returns the numbers of keys of both parts, where `len` is their sum. It visits only the part with fewer entries.
-fn count_parts<T: Integer, V: Eq>(
+pub(super) fn count_parts<T: Integer, V: Eq>(
     below: &Entries<T, V>,
     from: &Entries<T, V>,
     len: T::SafeLen,

@@ -1,5 +1,6 @@
 use Rattle.blaze_table.proofs.Words.{◌<ℤ◌, ◌∙◌, ap, arith, ints, CountedEntries, with_end}
 use Rattle.blaze_table.proofs.Neighbours.Holders.{entry_containing, present, absent_inside}
+use Rattle.blaze_table.proofs.Cuts.Parts.{kept_inside}
 use Rattle.blaze_table.proofs.Cuts.SplitEdits.{starts_under, split_inside, clone_there, clone_removed}
 use Rattle.blaze_table.proofs.table.split.split_across.Goals as goal
 
@@ -40,6 +41,15 @@ returns-in-Ok-clause-split g c =
     g.V.Clone.is_clone c.requires.clones c.requires.reaches (rank c.sub_one.result) c.insert_clone.new.self.counted.entries c.set_end.new.self.entries c.in-Ok.from.counted.entries (omega (arith, ints, c.sub_one.ensures))
     c.in_ok-insert_clone.ensures.ok
     (ap (λ (s : CountedEntries g.row.V.Denot). s.entries) c.set_end.ensures ∙ ap (λ (s : CountedEntries g.row.V.Denot). with_end (rank c.args.ends.start) (rank c.sub_one.result) s.entries) c.in-Ok.ensures.below)
+    (ap (λ (s : CountedEntries g.row.V.Denot). s.entries) c.in-Ok.ensures.from)
+
+pub returns-in-Ok-clause-kept : goal.returns-in-Ok-clause-kept
+returns-in-Ok-clause-kept g c =
+    let eq = g.V.PartialEq.eq in
+    let k = g.T.Integer.rank c.args.key in
+    let es = c.args.entries.now.counted.entries in
+    kept_inside eq g.met.V.Eq.laws k g.T.Integer.high es _ _ (entry_containing eq k g.T.Integer.high es g.T.Integer.low _ _ c.in_hand.ensures c.requires.canonical c.requires.found)
+    g.V.Clone.is_clone c.insert_clone.new.self.counted.entries c.in-Ok.from.counted.entries c.requires.reaches c.in_ok-insert_clone.ensures.ok
     (ap (λ (s : CountedEntries g.row.V.Denot). s.entries) c.in-Ok.ensures.from)
 
 pub returns-in-Err-clause-err : goal.returns-in-Err-clause-err

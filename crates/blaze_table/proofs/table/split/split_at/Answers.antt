@@ -1,5 +1,6 @@
 use Rattle.blaze_table.proofs.Words.{◌∙◌, sym, refl, rules, le_fails, below, from, IsSplitOf}
 use Rattle.blaze_table.proofs.Neighbours.Holders.{entry_containing}
+use Rattle.blaze_table.proofs.Cuts.Parts.{if_kept}
 use Rattle.blaze_table.proofs.Cuts.SplitEdits.{split_behind, split_above, if_split}
 use Rattle.blaze_table.proofs.table.split.split_at.Goals as goal
 use Rattle.blaze_table.proofs.table.split.split_at.Goals.{in_default-via-in-Some+else-is_at_most, in_default-via-in_default}
@@ -19,3 +20,9 @@ returns-in_default-clause-split g c =
 
 pub returns-in-Some-clause-split : goal.returns-in-Some-clause-split
 returns-in-Some-clause-split g c = search rules
+
+pub returns-in_default-clause-kept : goal.returns-in_default-clause-kept
+returns-in_default-clause-kept g c = if_kept (λ o. o.counted) (g.T.Integer.rank c.args.key) c.args.entries.now.counted.entries c.split_off.result c.split_off.ensures.from
+
+pub returns-in-Some-clause-kept : goal.returns-in-Some-clause-kept
+returns-in-Some-clause-kept g c = search rules

@@ -1,7 +1,8 @@
-use Rattle.range_map_blaze.proofs.Words.{◌≡◌, arith, ◌∙◌, refl, sym, ap, subst, Ok, if_err, counted_none, CountedEntries, IsChosen, IsRangeCut, left_with_right, uncounted, one_range, AreKeysTaken}
+use Rattle.range_map_blaze.proofs.Words.{◌≡◌, arith, ◌∙◌, refl, sym, ap, subst, Ok, counted_none, CountedEntries, uncounted, AreKeysTaken}
 use Rattle.std.proofs.lemmas.Bool.{false≢true}
 use Rattle.blaze_table.specs.Work.{IsCountedCut, IsRefused}
-use Rattle.range_map_blaze.proofs.TakenBack.{keys_taken, nothing_taken}
+use Rattle.range_map_blaze.proofs.PartsTaken.{taken_to, taken_since, refused_by}
+use Rattle.range_map_blaze.proofs.TakenBack.{nothing_taken}
 use Rattle.range_map_blaze.proofs.map.RangeMapBlaze.take_keys.Goals as goal
 
 -- no edit, as a cut
@@ -30,35 +31,30 @@ returns-then-is_free-clause-none g c = λ free. (ap Ok c.new.ensures, refl)
 pub returns-then-is_free-clause-counted : goal.returns-then-is_free-clause-counted
 returns-then-is_free-clause-counted g c = cut_nothing c.args.self.now
 
-pub returns-in_err-taken-clause-none : goal.returns-in_err-taken-clause-none
-returns-in_err-taken-clause-none g c = λ free. absurd (false≢true (sym c.if-is_free.false ∙ c.is_free.ensures.1 free))
+pub returns-then-is_free_above-clause-ok : goal.returns-then-is_free_above-clause-ok
+returns-then-is_free_above-clause-ok g c =
+    taken_to g.V.PartialEq.eq g.T.Integer.low g.T.Integer.high (g.T.Integer.rank c.args.start) (g.T.Integer.rank c.args.end) c.args.self.now.entries c.last_part.new.self.entries c.last_part.result
+    (c.is_free_above.ensures.free.0 c.if-is_free_above.true) c.last_part.ensures.ok
 
-pub returns-in_err-taken-clause-err : goal.returns-in_err-taken-clause-err
-returns-in_err-taken-clause-err g c = if_err c.from_residual.result (refused_itself c.args.self.now)
+pub returns-then-is_free_above-clause-none : goal.returns-then-is_free_above-clause-none
+returns-then-is_free_above-clause-none g c = λ free. absurd (false≢true (sym c.if-is_free.false ∙ c.is_free.ensures.1 free))
 
-pub returns-in_err-cut_range-clause-none : goal.returns-in_err-cut_range-clause-none
-returns-in_err-cut_range-clause-none g c = λ free. absurd (false≢true (sym c.if-is_free.false ∙ c.is_free.ensures.1 free))
+pub returns-then-is_free_above-clause-err : goal.returns-then-is_free_above-clause-err
+returns-then-is_free_above-clause-err g c = refused_by c.last_part.result c.args.self.now c.last_part.new.self (refused_itself c.args.self.now) c.last_part.ensures.err
 
-pub returns-in_err-cut_range-clause-err : goal.returns-in_err-cut_range-clause-err
-returns-in_err-cut_range-clause-err g c =
-    if_err c.from_residual-in_err-cut_range.result (subst (λ (s : CountedEntries g.row.V.Denot). IsRefused s c.cut_range.new.self) c.self.view_is c.in_err-cut_range.ensures.err)
+pub first_part-requires-clause-room : goal.first_part-requires-clause-room
+first_part-requires-clause-room g c = c.is_free_above.ensures.room c.if-is_free_above.false
 
-pub returns-clause-ok : goal.returns-clause-ok
-returns-clause-ok g c =
-    let eq = g.V.PartialEq.eq in
-    let low = g.T.Integer.low in
-    let high = g.T.Integer.high in
-    let l = g.T.Integer.rank c.args.start in
-    let h = g.T.Integer.rank c.args.end in
-    keys_taken eq g.met.V.Eq.laws low high l h c.args.self.now.entries _ _
-    (subst (λ (s : CountedEntries g.row.V.Denot). IsRangeCut eq low high l h s.entries c.cut_range.new.self.entries) c.self.view_is c.in_ok-cut_range.ensures.ok)
-    (subst (λ (s : CountedEntries g.row.V.Denot). IsChosen eq low high left_with_right c.args.self.now.entries (one_range l h) s.entries) (sym c.uncounted.ensures) c.in_ok-taken.ensures)
+pub returns-then-is_free_below-clause-ok : goal.returns-then-is_free_below-clause-ok
+returns-then-is_free_below-clause-ok g c =
+    taken_since g.V.PartialEq.eq g.T.Integer.low g.T.Integer.high (g.T.Integer.rank c.args.start) (g.T.Integer.rank c.args.end) c.args.self.now.entries c.first_part.new.self.entries c.first_part.result
+    (c.is_free_below.ensures.0 c.if-is_free_below.true) c.first_part.ensures.ok
 
-pub returns-clause-uncounted : goal.returns-clause-uncounted
-returns-clause-uncounted g c = subst (λ (s : CountedEntries g.row.V.Denot). s ≡ uncounted s.entries) (sym c.uncounted.ensures) refl
+pub returns-then-is_free_below-clause-none : goal.returns-then-is_free_below-clause-none
+returns-then-is_free_below-clause-none g c = λ free. absurd (false≢true (sym c.if-is_free.false ∙ c.is_free.ensures.1 free))
+
+pub returns-then-is_free_below-clause-err : goal.returns-then-is_free_below-clause-err
+returns-then-is_free_below-clause-err g c = refused_by c.first_part.result c.args.self.now c.first_part.new.self (refused_itself c.args.self.now) c.first_part.ensures.err
 
 pub returns-clause-none : goal.returns-clause-none
 returns-clause-none g c = λ free. absurd (false≢true (sym c.if-is_free.false ∙ c.is_free.ensures.1 free))
-
-pub returns-clause-counted : goal.returns-clause-counted
-returns-clause-counted g c = subst (λ (s : CountedEntries g.row.V.Denot). IsCountedCut s c.cut_range.new.self) c.self.view_is c.in_ok-cut_range.ensures.counted
