@@ -83,16 +83,37 @@ fn pop_last(rt: &HostRuntime, mut table: Words) {
 /// Splits a table inside an entry, and prints the part from the key on, then the part below it.
 fn split_at(rt: &HostRuntime, mut table: Words) {
     begin(rt, "split_at");
-    let answer = table.split_at(24);
+    let above = table.split_at(24);
     end(rt);
-    match &answer {
-        Ok(above) => print_table(rt, above),
+    show_parts(rt, &above, &table);
+}
+
+/// Takes the part from a key inside an entry on, and prints it, then the part below the key.
+fn part_from(rt: &HostRuntime, mut table: Words) {
+    begin(rt, "part_from");
+    let above = table.part_from(24);
+    end(rt);
+    show_parts(rt, &above, &table);
+}
+
+/// Takes the part below a key inside an entry, and prints it, then the part from the key on.
+fn part_below(rt: &HostRuntime, mut table: Words) {
+    begin(rt, "part_below");
+    let below = table.part_below(24);
+    end(rt);
+    show_parts(rt, &below, &table);
+}
+
+/// Prints the part that a call removed from a table, then what is left in the table.
+fn show_parts(rt: &HostRuntime, removed: &Result<Words, AllocError>, table: &Words) {
+    match removed {
+        Ok(part) => print_table(rt, part),
         Err(_) => {
             let _ = print!(rt; " refused");
         }
     }
     let _ = print!(rt; ", left:");
-    show_table(rt, &table);
+    show_table(rt, table);
 }
 
 /// Keeps all keys except one.
@@ -133,6 +154,8 @@ pub fn all(rt: &HostRuntime) -> Result<(), AllocError> {
     pop_first(rt, leaf(alloc, 2)?);
     pop_last(rt, leaf(alloc, 2)?);
     split_at(rt, leaf(alloc, 3)?);
+    part_from(rt, leaf(alloc, 3)?);
+    part_below(rt, leaf(alloc, 3)?);
     retain_keys(rt, leaf(alloc, 2)?);
     Ok(())
 }
