@@ -12,9 +12,10 @@ of lines `old:` and `new:` change a text that stands once in the named file:
     old: ...
     new: ...
 
-For each crate, first the control: the right bodies of all these functions must be proved, with the goals that the files name. Then each
-wrong body is tried over what the control kept, in the same folder. It must be rejected at the named goal, and so not proved. The last
-line is 'N passed, M failed'."""
+For each crate, first the control: the right bodies of all these functions must be proved, with the goals that the files name. Then the
+wrong bodies are tried over what the control kept, in the same folder: one check has wrong bodies of several functions, and what it says of
+a function is of the wrong body of this function alone. Each must be rejected at the named goal, and so not proved. If that check does not
+say so of a wrong body, it is tried alone. The last line is 'N passed, M failed'."""
 import argparse
 import re
 import resource
@@ -29,8 +30,8 @@ ROOT = Path(__file__).resolve().parent.parent
 FIRST_LINE = re.compile(r"rejected: (\S+) (\S+)")
 # The check names a goal in an error if its answer is written, and in a note if the check searched for one. An answer that only names
 # what the wrong body lacks shows nothing.
-ANSWERED = re.compile(r"error: `([^` ]+)`(?!: (?:record|`\S+`: module) `\S+`\s+has no )")
-SEARCHED = re.compile(r"it is not proved that .*?\(((?:`[^` ]+`(?:, )?)+)\)")
+ANSWERED = r"error: `([^` ]+)`(?!: (?:record|`\S+`: module) `\S+`\s+has no )"
+SEARCHED = r"it is not proved that .*?\(((?:`[^` ]+`(?:, )?)+)\)"
 REJECTED = r"not proved|no proof: expected answers in|no proof: it passes the block `\S+`, which is not proved$"
 
 
@@ -116,38 +117,83 @@ class Crate:
         files = [file for module in modules for file in (self.folder / "kept").glob(f"*/Rattle-{self.name}-{module}.oantt")]
         return any(f'"name":"{goal}"'.encode() in file.read_bytes() for file in files)
 
-    def check_with(self, body: WrongBody) -> tuple[set[str], str]:
-        """Checks the function with the wrong body, and puts the right one back."""
+    def check_with(self, bodies: list[WrongBody]) -> tuple[set[str], str]:
+        """Checks functions with wrong bodies, one of each function, and puts the right ones back."""
         right: dict[str, str] = {}
+        places: dict[str, list[tuple[int, str, str]]] = {}
+        for file, old, new in (edit for body in bodies for edit in body.edits):
+            text = right.setdefault(file, (self.folder / file).read_text())
+            if text.count(old) != 1:
+                return set(), f"'{old}' does not stand once in {file}"
+            places.setdefault(file, []).append((text.index(old), old, new))
+        for file, spans in places.items():
+            spans.sort(reverse=True)
+            if any(at < before + len(old) for (at, _, _), (before, old, _) in zip(spans, spans[1:])):
+                return set(), f"two edits change one place of {file}"
         try:
-            for file, old, new in body.edits:
-                text = (self.folder / file).read_text()
-                right.setdefault(file, text)
-                if text.count(old) != 1:
-                    return set(), f"'{old}' does not stand once in {file}"
-                (self.folder / file).write_text(text.replace(old, new))
-            return self.check([body.function])
+            for file, text in right.items():
+                for at, old, new in places[file]:
+                    text = text[:at] + new + text[at + len(old) :]
+                (self.folder / file).write_text(text)
+            return self.check([body.function for body in bodies])
         finally:
             for file, text in right.items():
                 (self.folder / file).write_text(text)
 
 
 def goals_left(said: str) -> set[str]:
-    """The goals that a check did not prove."""
-    return {*ANSWERED.findall(said), *re.findall("`([^`]+)`", " ".join(SEARCHED.findall(said)))}
+    """The goals that a check of one function did not prove."""
+    return {*re.findall(ANSWERED, said), *re.findall("`([^`]+)`", " ".join(re.findall(SEARCHED, said)))}
+
+
+def goals_left_of(crate: Crate, function: str, said: str) -> set[str]:
+    """The goals of a function that a check of several did not prove, as far as what the check says names this function."""
+    path = re.escape(function.replace("::", "/"))
+    searched = re.findall(rf"^fn {crate.name}::{function}: no proof: .*`search` did not prove ((?:`[^`]+`(?:, )?)+)", said, re.M)
+    return {*re.findall(rf"^\./proofs/{path}/\S+: {ANSWERED}", said, re.M), *re.findall("`([^`]+)`", " ".join(searched))}
+
+
+def is_rejected(crate: Crate, function: str, said: str) -> bool:
+    """Whether a check said that the function is not proved, for its own goals or for another function that it calls."""
+    return bool(re.search(rf"^fn {crate.name}::{function}: (?:{REJECTED})", said, re.M))
 
 
 def fault_of(crate: Crate, body: WrongBody) -> str:
-    """What is wrong with a wrong body's trial: nothing, if it was rejected at its goal."""
-    proved, said = crate.check_with(body)
+    """What is wrong with a wrong body that is tried alone: nothing, if it was rejected at its goal."""
+    proved, said = crate.check_with([body])
     if proved:
         return "it is proved"
-    if not re.search(rf"^fn {crate.name}::{body.function}: (?:{REJECTED})", said, re.M):
+    if not is_rejected(crate, body.function, said):
         return "it was not judged: " + said[-2000:]
     goals = goals_left(said)
     if body.goal not in goals:
         return f"it is rejected at {', '.join(sorted(goals)) or 'no goal'}, and not at {body.goal}"
     return ""
+
+
+def rounds_of(bodies: list[WrongBody]) -> list[list[WrongBody]]:
+    """The wrong bodies in rounds, each with at most one of a function."""
+    rounds: list[list[WrongBody]] = []
+    for body in bodies:
+        for others in rounds:
+            if all(other.function != body.function for other in others):
+                others.append(body)
+                break
+        else:
+            rounds.append([body])
+    return rounds
+
+
+def rejected_in_rounds(crate: Crate, bodies: list[WrongBody]) -> set[str]:
+    """The names of the wrong bodies that are rejected at their goals, as checks of several say."""
+    rejected: set[str] = set()
+    for together in rounds_of(bodies):
+        proved, said = crate.check_with(together)
+        for body in together:
+            is_judged = body.function not in proved and is_rejected(crate, body.function, said)
+            if is_judged and body.goal in goals_left_of(crate, body.function, said):
+                rejected.add(body.name)
+    return rejected
 
 
 def tried(name: str, bodies: list[WrongBody]) -> int:
@@ -161,9 +207,15 @@ def tried(name: str, bodies: list[WrongBody]) -> int:
             print(f"{name}: the right bodies of {', '.join(sorted(set(functions) - proved))} are not proved\n{said[-2000:]}")
             return len(bodies)
         print(f"{name}: the right bodies of {len(functions)} functions are proved", flush=True)
-        strange = [body for body in bodies if not crate.has_goal(body.function, body.goal)]
+        strange = {body.name for body in bodies if not crate.has_goal(body.function, body.goal)}
+        rejected = rejected_in_rounds(crate, [body for body in bodies if body.name not in strange])
         for body in bodies:
-            fault = f"{body.function} has no goal {body.goal}" if body in strange else fault_of(crate, body)
+            if body.name in strange:
+                fault = f"{body.function} has no goal {body.goal}"
+            elif body.name in rejected:
+                fault = ""
+            else:
+                fault = fault_of(crate, body)
             failed += bool(fault)
             print(f"{name}: {body.name}: {fault or f'rejected at {body.goal} of {body.function}'}", flush=True)
     return failed
