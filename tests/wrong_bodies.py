@@ -13,9 +13,10 @@ of lines `old:` and `new:` change a text that stands once in the named file:
     new: ...
 
 For each crate, first the control: the right bodies of all these functions must be proved, with the goals that the files name. Then the
-wrong bodies are tried over what the control kept, in the same folder: one check has wrong bodies of several functions, and what it says of
-a function is of the wrong body of this function alone. Each must be rejected at the named goal, and so not proved. If that check does not
-say so of a wrong body, it is tried alone. The last line is 'N passed, M failed'."""
+wrong bodies are tried over what the control kept, in the same folder. One check has wrong bodies of several functions, at most one of each.
+A proof uses the contracts of other functions and not their bodies, so what the check says of a function is of its own wrong body. Each must
+be rejected at the named goal, and so not proved. If that check does not say so of a wrong body, it is tried alone. The last line is
+'N passed, M failed'."""
 import argparse
 import re
 import resource

@@ -11,7 +11,7 @@ cdef enum:
 cdef uint64_t NONE = UINT64_MAX  # in place of a number: no value
 
 
-cdef inline bint are_few(RangeMap map, Py_ssize_t rows):
+cdef inline bint are_few(Tree map, Py_ssize_t rows):
     return <size_t>rows <= map.length() // ENTRIES_A_ROW
 
 
@@ -78,7 +78,7 @@ cdef int32_t set_rows(c_map *map, Rows rows):
     return status
 
 
-cdef bint set_few(RangeMap map, Rows rows) except -1:
+cdef bint set_few(Tree map, Rows rows) except -1:
     """Sets rows that are in order, and returns whether the map changed. If an exception is raised, it is unchanged."""
     cdef Py_ssize_t row, length = rows.length
     rows.reserve(3 * length + 1)

@@ -2,14 +2,21 @@
 
 
 @cython.no_gc_clear
-cdef class FrozenRangeMap(Lookups):
+cdef class FrozenRangeMap(Walks):
     """A map that never changes, with a hash: `FrozenRangeMap(entries)` takes what `RangeMap(entries)` takes, or a RangeMap.
 
-    Any number of threads may read it. Its hash is equal for equal maps, so it can be a key of a dictionary or a value of a map.
+    Any number of threads may read it. Its hash is equal for equal maps, so it can be a key of a dictionary or a value of a map. As a
+    tuple, it has no hash if one of its values has none.
 
     >>> f = FrozenRangeMap([(1, 6, "a"), (8, 10, "b")])
     >>> f[3], f.count(), hash(f) == hash(f[1:20])
     ('a', 7, True)
+
+    It has the operators `|`, `&`, `-`, `^` of RangeMap. As with `set` and `frozenset`, the result has the class of the left map.
+    `f |= m` makes another map.
+
+    >>> f | RangeMap([(5, 8, "c")])
+    FrozenRangeMap([(1, 5, 'a'), (5, 8, 'c'), (8, 10, 'b')])
     """
 
     cdef Rows table
@@ -29,6 +36,7 @@ cdef class FrozenRangeMap(Lookups):
 
     cdef void give(self, Rows table):
         self.table, self.values, self.has_hash = table, table.values, False
+        self.changes += 1
 
     cdef bint find(self, int64_t key, uint64_t *number) nogil:
         return self.table.find(key, number)
@@ -39,22 +47,52 @@ cdef class FrozenRangeMap(Lookups):
             self.table.lo, self.table.length, self.table.hi, self.table.length, self.table.number, self.table.length, key, lo, hi,
             number)
 
-    cdef size_t read(self, int64_t at, bint is_back, int64_t *lo, int64_t *hi, uint64_t *number, size_t room) nogil:
-        # The first row that ends at `at` or above it; for the way back, that starts above `at`.
-        cdef Py_ssize_t row = 0, end = self.table.length, middle, step = -1 if is_back else 1
-        cdef size_t count = 0
+    cdef Py_ssize_t row_from(self, int64_t at, bint is_back) nogil:
+        """The first row that ends at a key or above it, or back the last that starts at it or below it."""
+        cdef Py_ssize_t row = 0, end = self.table.length, middle
         while row < end:
             middle = row + (end - row) // 2
             if self.table.lo[middle] <= at if is_back else self.table.hi[middle] < at:
                 row = middle + 1
             else:
                 end = middle
-        row -= is_back
+        return row - is_back
+
+    cdef size_t read(self, int64_t at, bint is_back, int64_t *lo, int64_t *hi, uint64_t *number, size_t room) nogil:
+        cdef Py_ssize_t row = self.row_from(at, is_back), step = -1 if is_back else 1
+        cdef size_t count = 0
         while count < room and 0 <= row < self.table.length:
             lo[count], hi[count], number[count] = self.table.lo[row], self.table.hi[row], self.table.number[row]
             count += 1
             row += step
         return count
+
+    cdef bint find_free(self, int64_t lo, int64_t hi, uint64_t length, bint is_last, int64_t *found) nogil:
+        # The keys from `lo` to `hi` are those in which there may be so many.
+        cdef Py_ssize_t row = self.row_from(hi if is_last else lo, is_last)
+        cdef int64_t first, last
+        while 0 <= row < self.table.length:
+            first, last = self.table.lo[row], self.table.hi[row]
+            if last < lo or hi < first:
+                break
+            elif is_last:
+                if last < hi and <uint64_t>hi - <uint64_t>last >= length:
+                    lo = last + 1
+                    break
+                elif first <= lo:
+                    return False
+                hi = first - 1
+                row -= 1
+            else:
+                if lo < first and <uint64_t>first - <uint64_t>lo >= length:
+                    hi = first - 1
+                    break
+                elif hi <= last:
+                    return False
+                lo = last + 1
+                row += 1
+        found[0] = <int64_t>(<uint64_t>hi - (length - 1)) if is_last else lo
+        return length and <uint64_t>hi - <uint64_t>lo >= length - 1
 
     cdef size_t length(self) nogil:
         return self.table.length
@@ -143,8 +181,20 @@ cdef class FrozenRangeMap(Lookups):
     def __richcmp__(self, other, int operator):
         return compared(self, other, operator)  # Cython does not inherit it by a class that has __hash__
 
+    def __or__(self, other):
+        return combined(self, other, UNION)
+
+    def __and__(self, other):
+        return combined(self, other, INTERSECTION)
+
+    def __sub__(self, other):
+        return combined(self, other, DIFFERENCE)
+
+    def __xor__(self, other):
+        return combined(self, other, SYMMETRIC_DIFFERENCE)
+
     def __hash__(self):
-        """Returns the hash of the content, which is equal for equal maps. O(n) once, then O(1).
+        """Returns the hash of the content, which is equal for equal maps. Raises TypeError if a value has no hash. O(n) once, then O(1).
 
         >>> hash(FrozenRangeMap([(1, 6, 1)])) == hash(FrozenRangeMap([(1, 3, True), (3, 6, 1.0)]))
         True
@@ -156,6 +206,8 @@ cdef class FrozenRangeMap(Lookups):
         if not self.has_hash:
             # Adjacent rows whose values have one hash count as one row: equal values of two types make two rows.
             for row in range(table.length):
+                if hashes[table.number[row]] == NO_HASH:
+                    raise TypeError("a value of the map has no hash")
                 if row == 0 or table.lo[row] - 1 != table.hi[row - 1] or \
                         hashes[table.number[row]] != hashes[table.number[row - 1]]:
                     hash = mixed(hash ^ table.lo[row])

@@ -1,11 +1,11 @@
 # The C library and the parts of Python's C interface that Cython does not declare. No function here runs Python code, except
-# PyObject_Hash and is_equal.
+# hash_or_error and is_equal.
 
 from cpython.buffer cimport PyBUF_RECORDS_RO, PyBuffer_Release
 from cpython.bytes cimport PyBytes_FromStringAndSize
 from cpython.long cimport PyLong_Check, PyLong_FromLongLong, PyLong_FromUnsignedLongLong
 from cpython.object cimport (
-    Py_EQ, Py_GE, Py_GT, Py_LE, Py_LT, Py_NE, PyObject, PyObject_Hash, PyObject_RichCompare, PyTypeObject
+    Py_EQ, Py_GE, Py_GT, Py_LE, Py_LT, Py_NE, PyObject, PyObject_RichCompare, PyTypeObject, hashfunc
 )
 from libc.stdint cimport INT64_MAX, INT64_MIN, UINT64_MAX, int32_t, int64_t, uint64_t
 from libc.stdlib cimport calloc, free, malloc, realloc
@@ -24,6 +24,8 @@ cdef extern from "Python.h":
     bint is_index "PyIndex_Check"(object)
     object index_of "PyNumber_Index"(object)
     PyTypeObject *type_of "Py_TYPE"(PyObject *)
+    hashfunc no_hash "PyObject_HashNotImplemented"  # tp_hash of a type without a hash
+    Py_hash_t hash_or_error "PyObject_Hash"(object)  # -1 with an exception set
     int is_equal "PyObject_RichCompareBool"(PyObject *, PyObject *, int)
     bint is_same_value "PyObject_RichCompareBool"(object, object, int) except -1
     PyObject *item_of "PyList_GET_ITEM"(list, Py_ssize_t)
@@ -80,6 +82,7 @@ cdef extern from "range_map.h" nogil:
     int32_t range_map_extend_unchecked(c_map *, c_map *)
     int32_t range_map_intersect_unchecked(c_map *, c_map *)
     int32_t range_map_subtract_unchecked(c_map *, c_map *)
+    int32_t range_map_union_many(c_map *, size_t, c_map *)
     c_bool range_map_equal_unchecked(c_map *, c_map *)
     int32_t range_map_from_table_unchecked(int64_t *, size_t, int64_t *, size_t, uint64_t *, size_t, c_map *)
     c_bool range_table_is_ordered_unchecked(int64_t *, size_t, int64_t *, size_t, uint64_t *, size_t)

@@ -1,4 +1,4 @@
-# What both kinds of map have: lookups, and the state of a pickle. The iterators and the comparison have files of their own.
+# Lookups, which both kinds of map have.
 
 
 cdef class Lookups:
@@ -28,6 +28,10 @@ cdef class Lookups:
     cdef void keys_within(self, int64_t lo, int64_t hi, uint64_t *low, uint64_t *high) nogil:
         pass
 
+    cdef bint find_free(self, int64_t lo, int64_t hi, uint64_t length, bint is_last, int64_t *found) nogil:
+        """Whether there are so many keys in a row without a value, and where the first or the last such keys start."""
+        return False
+
     cdef Rows rows(self, int64_t lo, int64_t hi):
         """The entries within a range, cut to it. All are of one moment, but the map may have changed when the call returns."""
         cdef Rows rows = new_rows()
@@ -44,6 +48,13 @@ cdef class Lookups:
         if rows.length:
             rows.lo[0] = max(rows.lo[0], lo)
             rows.hi[rows.length - 1] = min(rows.hi[rows.length - 1], hi)
+        return rows
+
+    cdef Rows snapshot(self, int64_t start):
+        """The entries of one moment that end at a key or above it, with the numbers and the values of this map. The caller pins these."""
+        cdef Rows rows = new_rows()
+        self.read_rows(rows, start, INT64_MAX)
+        rows.values = self.values
         return rows
 
     cdef int read_rows(self, Rows rows, int64_t lo, int64_t hi) except -1:
@@ -109,8 +120,8 @@ cdef class Lookups:
         raise KeyError(keys)
 
     def __contains__(self, key):
-        """Returns whether an object is an integer that has a value, or a number that is equal to one, as `in` of a `range` does.
-        O(log n).
+        """Returns whether an object is an integer that has a value, or a number that is equal to one, as `in` of a `range` does. An
+        entry is no key. O(log n).
 
         >>> from decimal import Decimal
         >>> m = RangeMap([(1, 6, "a")])
@@ -163,6 +174,41 @@ cdef class Lookups:
             return None
         return lo, stop_of(hi)
 
+    cdef tuple nearest(self, key, bint is_back):
+        cdef int64_t at, lo, hi
+        cdef uint64_t number
+        cdef int side = key_of(key, &at)
+        if side:
+            if is_back == (side < 0):
+                return None
+            at = INT64_MAX if is_back else INT64_MIN
+        if not self.read(at, is_back, &lo, &hi, &number, 1):
+            return None
+        value = self.values.value_of(number)
+        return lo, stop_of(hi), value
+
+    def entry_at_or_above(self, key):
+        """Returns the first entry `(start, stop, value)` that contains `key` or is above it, or None.
+
+        Raises TypeError if `key` is not an integer. O(log n).
+
+        >>> m = RangeMap([(1, 6, "a"), (8, 10, "b")])
+        >>> m.entry_at_or_above(5), m.entry_at_or_above(6), m.entry_at_or_above(10)
+        ((1, 6, 'a'), (8, 10, 'b'), None)
+        """
+        return self.nearest(key, False)
+
+    def entry_at_or_below(self, key):
+        """Returns the last entry `(start, stop, value)` that contains `key` or is below it, or None.
+
+        Raises TypeError if `key` is not an integer. O(log n).
+
+        >>> m = RangeMap([(1, 6, "a"), (8, 10, "b")])
+        >>> m.entry_at_or_below(8), m.entry_at_or_below(7), m.entry_at_or_below(0)
+        ((8, 10, 'b'), (1, 6, 'a'), None)
+        """
+        return self.nearest(key, True)
+
     cdef tuple end(self, bint is_last):
         cdef int64_t lo, hi
         cdef uint64_t number
@@ -204,6 +250,60 @@ cdef class Lookups:
         self.keys_within(lo, hi, &low, &high)
         return count_of(low, high)
 
+    def has_any(self, start=None, stop=None):
+        """Returns whether a key of the range has a value.
+
+        Raises TypeError if an end is neither an integer nor None. O(log n).
+
+        >>> m = RangeMap([(1, 6, "a"), (8, 10, "b")])
+        >>> m.has_any(), m.has_any(4, 7), m.has_any(6, 8), m.has_any(4, 4)
+        (True, True, False, False)
+        """
+        cdef int64_t lo, hi, first, last
+        cdef uint64_t number
+        if not keys_of(start, stop, False, &lo, &hi):
+            return False
+        return self.read(lo, False, &first, &last, &number, 1) > 0 and first <= hi
+
+    def has_all(self, start=None, stop=None):
+        """Returns whether each key of the range has a value, which is true for a range without keys.
+
+        A range with keys outside of -2**63 to 2**63 - 1 has keys without values. Raises TypeError if an end is neither an integer nor
+        None. O(log n), and O(1) for each entry up to the first gap.
+
+        >>> m = RangeMap([(1, 6, "a"), (6, 10, "b")])
+        >>> m.has_all(1, 10), m.has_all(0, 10), m.has_all(4, 4), m.has_all()
+        (True, False, True, False)
+        """
+        cdef int64_t lo, hi, found
+        if start is not None and not PyLong_Check(start):
+            start = index_of(start)
+        if stop is not None and not PyLong_Check(stop):
+            stop = index_of(stop)
+        if not keys_of(start, stop, False, &lo, &hi):
+            return (INT64_MIN if start is None else start) >= (2**63 if stop is None else stop)
+        if lo == INT64_MIN and start is not None and start < INT64_MIN or hi == INT64_MAX and stop is not None and stop > 2**63:
+            return False
+        return not self.find_free(lo, hi, 1, False, &found)
+
+    def find_gap(self, length, start=None, stop=None, *, last=False):
+        """Returns the least key that starts `length` keys in a row, within the range, of which none has a value.
+
+        If `last` is true, returns the greatest such key. Returns None if there is none, or if `length` is below 1. Raises TypeError
+        if an argument is not an integer. O(log n), and O(1) for each entry up to the result.
+
+        >>> m = RangeMap([(1, 6, "a"), (8, 10, "b")])
+        >>> m.find_gap(2, 0, 20), m.find_gap(2, 0, 20, last=True), m.find_gap(3, 0, 10), m.find_gap(0)
+        (6, 18, None, None)
+        """
+        cdef int64_t lo, hi, found
+        if not keys_of(start, stop, False, &lo, &hi):
+            return None
+        length = index_of(length)
+        if length < 1 or length > UINT64_MAX:
+            return lo if length == 2**64 and not self.length() and lo == INT64_MIN and hi == INT64_MAX else None
+        return found if self.find_free(lo, hi, length, last, &found) else None
+
     def get_many(self, keys):
         """Returns a list with the value at each key of an array, or None where a key has none.
 
@@ -240,150 +340,3 @@ cdef class Lookups:
         cdef Py_ssize_t row
         starts, stops, _ = rows.arrays()
         return starts, stops, [rows.values.value_of(rows.number[row]) for row in range(rows.length)]
-
-    # ---- Iterate
-
-    def __iter__(self):
-        """Returns an iterator of the entries `(start, stop, value)`, ascending.
-
-        It raises RuntimeError if the map has changed since the iterator was made. O(1) for each entry.
-
-        >>> list(RangeMap([(8, 10, "b"), (1, 6, "a")]))
-        [(1, 6, 'a'), (8, 10, 'b')]
-        """
-        return iterator_of(self, INT64_MIN, INT64_MAX, False)
-
-    def __reversed__(self):
-        """Returns an iterator of the entries `(start, stop, value)`, descending.
-
-        It raises RuntimeError if the map has changed since the iterator was made. O(1) for each entry.
-
-        >>> list(reversed(RangeMap([(1, 6, "a"), (8, 10, "b")])))
-        [(8, 10, 'b'), (1, 6, 'a')]
-        """
-        return iterator_of(self, INT64_MIN, INT64_MAX, True)
-
-    def overlapping(self, start=None, stop=None, *, reverse=False):
-        """Returns an iterator of the entries that have a key in the range, whole, ascending, or descending if `reverse` is true.
-
-        Raises TypeError if an end is neither an integer nor None. The iterator raises RuntimeError if the map has changed since
-        it was made. O(log n), and O(1) for each entry.
-
-        >>> m = RangeMap([(1, 6, "a"), (8, 10, "b")])
-        >>> list(m.overlapping(5, 9)), list(m.overlapping(6, 8)), list(m.overlapping(stop=9, reverse=True))
-        ([(1, 6, 'a'), (8, 10, 'b')], [], [(8, 10, 'b'), (1, 6, 'a')])
-        """
-        cdef int64_t lo, hi
-        if not keys_of(start, stop, False, &lo, &hi):
-            return iter(())
-        return iterator_of(self, lo, hi, reverse)
-
-    def gaps(self, start=None, stop=None):
-        """Returns an iterator of the longest ranges `(start, stop)` within the range in which no key has a value, ascending.
-
-        Raises TypeError if an end is neither an integer nor None. The iterator raises RuntimeError if the map has changed since
-        it was made. O(log n), and O(1) for each gap.
-
-        >>> m = RangeMap([(1, 6, "a"), (8, 10, "b")])
-        >>> list(m.gaps(3, 13))
-        [(6, 8), (10, 13)]
-        """
-        cdef int64_t lo, hi
-        cdef Gaps gaps
-        if not keys_of(start, stop, False, &lo, &hi):
-            return iter(())
-        gaps = Gaps.__new__(Gaps)
-        gaps.from_key = lo
-        return gaps.start(self, lo, hi, False)
-
-    # ---- For other modules
-
-    def __array__(self, dtype=None, copy=None):
-        """Returns an array of NumPy without dimensions, with this map: to NumPy, a map is one object, as a dictionary is."""
-        import numpy
-        one = numpy.empty((), object)
-        one[()] = self
-        return one
-
-    cdef size_t bytes_of_entries(self):
-        return 0
-
-    def __sizeof__(self):
-        """Returns how many bytes the map takes, without its values.
-
-        This is exact for a FrozenRangeMap. For a RangeMap, it is an estimate of 48 bytes for each entry; these take 34 to 74. O(1).
-        """
-        return object.__sizeof__(self) + self.bytes_of_entries() + self.values.__sizeof__()
-
-    def __dask_tokenize__(self):
-        """Returns what Dask names this map by. It is equal in all processes for maps of one class with the same entries, if the
-        values have such names too. O(n)."""
-        from hashlib import sha256
-        from dask.base import normalize_token
-        cdef Rows rows = self.rows(INT64_MIN, INT64_MAX)
-        columns = [sha256(column).hexdigest() for column in rows.arrays()]
-        return normalize_token((type(self), columns, rows.values.at, attributes_of(self)))
-
-    # ---- Compare and print
-
-    def __richcmp__(self, other, int operator):
-        return compared(self, other, operator)
-
-    def __repr__(self):
-        """Returns the call that makes an equal map, if the values' own texts are calls that make them. O(n)."""
-        name = type(self).__name__
-        if enter_repr(self):
-            return f"{name}(...)"
-        try:
-            texts = self.rows(INT64_MIN, INT64_MAX).texts()
-            return f"{name}([{', '.join(texts)}])" if texts else f"{name}()"
-        finally:
-            leave_repr(self)
-
-    @classmethod
-    def __class_getitem__(cls, item):
-        return GenericAlias(cls, item)
-
-    # ---- Pickles: columns of starts, stops and numbers, the list of values, and the attributes of a subclass
-
-    def __reduce__(self):
-        cdef Rows rows = self.rows(INT64_MIN, INT64_MAX)
-        starts, lasts, numbers = rows.arrays()
-        return __newobj__, (type(self),), (starts, lasts, numbers, rows.values.at, attributes_of(self))
-
-
-cdef Rows rows_of_state(object state):
-    starts, stops, numbers, values, _ = state
-    cdef Column positions = column_of(numbers)
-    cdef list known = list(values), held = []
-    cdef Py_ssize_t row
-    cdef int64_t at = 0
-    for row in range(positions.length):
-        if positions.at(row, &at) != WITHIN or not 0 <= at < size_of(known):
-            raise ValueError("the state has a number without a value")
-        held.append(<object>item_of(known, at))
-    return ordered_rows_of_columns(starts, stops, held)
-
-
-cdef object attributes_of(object self):
-    """The attributes of an instance of a subclass, in its __dict__ and its slots, or None."""
-    cdef type kind = type(self)
-    if kind is RangeMap or kind is FrozenRangeMap:
-        return None
-    slots = {name: getattr(self, name) for name in _slotnames(kind) if name != "__weakref__" and hasattr(self, name)}
-    return dict(getattr(self, "__dict__", ())), slots
-
-
-cdef int give_attributes(object self, object attributes) except -1:
-    """Sets what `attributes_of` returned. TypeError or ValueError, before any is set, if it is another object."""
-    if attributes is not None:
-        named, slots = attributes
-        if not isinstance(named, dict) or not isinstance(slots, dict):
-            raise TypeError("the attributes must be two dictionaries")
-        if named and getattr(self, "__dict__", None) is None or not slots.keys() <= set(_slotnames(type(self))):
-            raise ValueError("the class has no such attributes")
-        if named:
-            self.__dict__.update(named)
-        for name, value in slots.items():
-            setattr(self, name, value)
-    return 0

@@ -1,13 +1,13 @@
 # Changes of the pieces of a range: its entries and gaps, cut to it, each with a new value or with none.
 
 
-cdef int check_changes(RangeMap map, uint64_t changes) except -1:
+cdef int check_changes(Tree map, uint64_t changes) except -1:
     if map.changes != changes:
         raise RuntimeError("the map changed during the call")
     return 0
 
 
-cdef int set_pieces(RangeMap map, Rows pieces, list values, object missing, uint64_t changes) except -1:
+cdef int set_pieces(Tree map, Rows pieces, list values, object missing, uint64_t changes) except -1:
     """Sets the keys of each piece, or removes them where the value is `missing`, if the map has not changed since."""
     cdef Py_ssize_t row
     cdef bint is_changed = False
@@ -32,7 +32,7 @@ cdef int set_pieces(RangeMap map, Rows pieces, list values, object missing, uint
     return 0
 
 
-cdef int push_changed(RangeMap map, Rows pieces, Rows changed) except -1:
+cdef int push_changed(Tree map, Rows pieces, Rows changed) except -1:
     """Pushes the pieces whose number is not what the map has there, UINT64_MAX for none. In a run of pieces with one number, these
     are one row, from the first to the last of them."""
     cdef Py_ssize_t row

@@ -10,6 +10,6 @@ cdef int hide(type kind) except -1:
     return 0
 
 
-for kind in (Column, Entries, Gaps, Lookups, Rows, Values):
+for kind in (Changes, Column, Differences, Entries, Gaps, Lookups, Ranges, Rows, Tree, Values, Walks):
     hide(kind)
 del kind

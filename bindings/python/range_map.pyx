@@ -29,15 +29,23 @@ stops. No range with a key stops at -2**63, and `lasts + 1` of NumPy gives the s
     >>> RangeMap.from_arrays([5], [2**63], ["c"]) == RangeMap.from_arrays(*n.to_arrays()) == n
     True
 
-Values are any hashable objects. Two values are the same value if they have the same type and are equal, or are one object. So `1`,
-`True` and `1.0` are three values, and a NaN is the same value as itself alone. Adjacent ranges with the same value are one entry. A map gives
-back one of the equal objects that were put into it. It drops values that no entry has by itself: it keeps at most twice as many
-values as it has entries, and 16. If most entries are removed, it frees the room for their values.
+Values are any objects. One object is the same value as itself. Two objects with hashes are the same value if they have the same type
+and are equal. So `1`, `True` and `1.0` are three values, and a NaN is the same value as itself alone. An object for which `hash` raises
+TypeError is compared by identity, such as a list, a dictionary, or a tuple with a list in it. It may change, and then it may no longer
+be equal to another list. Adjacent ranges with the same value are one entry.
+
+    >>> kept = []
+    >>> RangeMap([(1, 3, kept), (3, 6, kept), (6, 8, [])])
+    RangeMap([(1, 6, []), (6, 8, [])])
+
+A map gives back one of the equal objects that were put into it. It drops values that no entry has by itself: it keeps at most twice as
+many values as it has entries, and 16. If most entries are removed, it frees the room for their values.
 
 Iterators. An iterator raises RuntimeError if its map has changed since it was made. It can't be copied or pickled.
 
-Exceptions. A call that raises leaves the map as it was. If an allocation fails, it raises MemoryError. What a value's `__hash__` or
-`__eq__` raises is raised by the call that compares it. These, and `__del__`, may use and change the map themselves.
+Exceptions. A call that raises leaves the map as it was. If an allocation fails, it raises MemoryError. What a value's `__eq__`
+raises is raised by the call that compares it, and so is what its `__hash__` raises, except TypeError. These, and `__del__`, may use and
+change the map themselves.
 
 Threads. Several threads may use one map, whichever thread made it: tested, not proved. Calls run one after another, with two exceptions.
 Other threads run during `FrozenRangeMap.get_many`. They also run while a map of more than 4096 entries is copied, read as a whole, or
@@ -63,8 +71,12 @@ include "rows.pxi"
 include "integers.pxi"
 include "columns.pxi"
 include "lookups.pxi"
+include "walks.pxi"
 include "comparison.pxi"
 include "iterators.pxi"
+include "differences.pxi"
+include "tree.pxi"
+include "changes.pxi"
 include "map.pxi"
 include "renumber.pxi"
 include "few.pxi"
@@ -74,7 +86,7 @@ include "pieces.pxi"
 include "frozen.pxi"
 include "signatures.pxi"
 
-for kind in (Lookups, RangeMap, FrozenRangeMap):
+for kind in (Lookups, Walks, Tree, Changes, RangeMap, FrozenRangeMap):
     write_signatures(kind)
 del kind
 include "private.pxi"

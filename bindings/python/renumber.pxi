@@ -1,7 +1,7 @@
 # New numbers for the values of a map, in a table that is no larger than they need.
 
 
-cdef list renumber(RangeMap map):
+cdef list renumber(Tree map):
     """Gives the values that entries have the numbers from 0 on, and returns the old list of values, which keeps them alive. If an
     allocation fails, it does nothing and returns None. Iterators of the map end with RuntimeError. O(n + numbers)."""
     cdef Values values = map.values
@@ -41,7 +41,7 @@ cdef list renumber(RangeMap map):
     return old
 
 
-cdef Py_ssize_t read_numbers(RangeMap map, int64_t *lo, Py_ssize_t rows, Py_ssize_t *new_of, Py_ssize_t length):
+cdef Py_ssize_t read_numbers(Tree map, int64_t *lo, Py_ssize_t rows, Py_ssize_t *new_of, Py_ssize_t length):
     """Reads the entries into three columns, with new numbers, and returns how many numbers are used. `new_of` gets the new number of
     each of them, counted from 1, and had 0 for each."""
     cdef uint64_t *number = <uint64_t *>lo + 2 * rows

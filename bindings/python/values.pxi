@@ -1,12 +1,27 @@
 # The values of one map. Only `find` may run Python code (a value's own __eq__), and `number_of` (its __hash__ too).
 
+cdef enum:
+    NO_HASH = -1  # in place of the hash of a value that has none; no hash is -1
+
+
+cdef inline Py_hash_t hash_of(object value) except? -1:
+    """The hash of a value, or NO_HASH if `hash` of it raises TypeError."""
+    cdef Py_hash_t hash = NO_HASH
+    if type_of(<PyObject *>value).tp_hash != no_hash:
+        hash = hash_or_error(value)
+        if hash == -1 and error_is(TypeError):
+            clear_error()
+    return hash
+
+
 @cython.final
 @cython.no_gc_clear
 cdef class Values:
-    """Values with a number each. Two values share one number if they have the same type and are equal, or are one object."""
+    """Values with a number each. Two values share one number if they are one object, or if they have hashes and one type and are
+    equal. A value without a hash, such as a list, may change, and then it would no longer be equal to the other."""
 
     cdef list at            # the value of each number; None at a free one
-    cdef Py_hash_t *hashes  # its hash; at a free number the next free one
+    cdef Py_hash_t *hashes  # its hash or NO_HASH; at a free number the next free one
     cdef Py_ssize_t *index  # numbers by hash, with linear probing; -1 where there is none
     cdef size_t mask        # the length of the index less 1; half as many numbers have room
     cdef Py_ssize_t count   # numbers in use
@@ -32,6 +47,11 @@ cdef class Values:
             raise RuntimeError("the map was freed")
         return <object>item_of(self.at, number)
 
+    cdef inline bint has_same_object(self, uint64_t number, Values other, uint64_t other_number):
+        """Whether a number of another table has the object of a number here."""
+        return number < <uint64_t>size_of(self.at) and other_number < <uint64_t>size_of(other.at) and \
+            item_of(self.at, number) == item_of(other.at, other_number)
+
     cdef Py_ssize_t find(self, object value, Py_hash_t hash) except -2:
         """The number of an equal value, or -1. After the last comparison no Python code runs."""
         cdef Py_ssize_t number
@@ -41,7 +61,7 @@ cdef class Values:
         cdef int equal
         if self.index == NULL:
             return -1
-        at = <size_t>mixed(hash) & self.mask
+        at = place_of(value, hash) & self.mask
         while True:
             number = self.index[at]
             if number < 0:
@@ -50,7 +70,7 @@ cdef class Values:
                 candidate = item_of(self.at, number)
                 if candidate == <PyObject *>value:
                     return number
-                if type_of(candidate) == type_of(<PyObject *>value):
+                if hash != NO_HASH and type_of(candidate) == type_of(<PyObject *>value):
                     self.pins += 1
                     add_reference(candidate)
                     equal = is_equal(candidate, <PyObject *>value, Py_EQ)
@@ -62,7 +82,7 @@ cdef class Values:
                         return number
                     if grown != self.grown:  # a comparison added values
                         grown = self.grown
-                        at = <size_t>mixed(hash) & self.mask
+                        at = place_of(value, hash) & self.mask
                         continue
             at = (at + 1) & self.mask
 
@@ -86,7 +106,7 @@ cdef class Values:
 
     cdef inline Py_ssize_t number_of(self, object value) except -2:
         """The number of a value, which it gets if it has none. Runs no Python code after it has the number."""
-        cdef Py_hash_t hash = PyObject_Hash(value)
+        cdef Py_hash_t hash = hash_of(value)
         cdef Py_ssize_t number = self.find(value, hash)
         return number if number >= 0 else self.add(value, hash)
 
@@ -96,7 +116,7 @@ cdef class Values:
         cdef Py_hash_t hash = source.hashes[number]
         cdef size_t at
         if self.index != NULL:
-            at = <size_t>mixed(hash) & self.mask
+            at = place_of(value, hash) & self.mask
             while self.index[at] >= 0:
                 if item_of(self.at, self.index[at]) == <PyObject *>value:
                     return self.index[at]
@@ -104,7 +124,7 @@ cdef class Values:
         return self.add(value, hash)
 
     cdef inline void enter(self, Py_ssize_t number):
-        cdef size_t at = <size_t>mixed(self.hashes[number]) & self.mask
+        cdef size_t at = place_of(<object>item_of(self.at, number), self.hashes[number]) & self.mask
         while self.index[at] >= 0:
             at = (at + 1) & self.mask
         self.index[at] = number
@@ -228,6 +248,13 @@ cdef list owned(PyObject *made):
 
 
 cdef inline uint64_t mixed(Py_hash_t hash):
-    """Spreads what hashes differ in over the low bits."""
-    cdef uint64_t bits = <uint64_t>hash * 0x9E3779B97F4A7C15ULL
-    return bits ^ bits >> 32
+    """Spreads each bit in which hashes differ over all bits. Different hashes have different results. (The end of MurmurHash3.)"""
+    cdef uint64_t bits = <uint64_t>hash
+    bits = (bits ^ bits >> 33) * 0xFF51AFD7ED558CCDULL
+    bits = (bits ^ bits >> 33) * 0xC4CEB9FE1A85EC53ULL
+    return bits ^ bits >> 33
+
+
+cdef inline size_t place_of(object value, Py_hash_t hash):
+    """Where the lookup of a value begins: by its address if it has no hash."""
+    return <size_t>mixed(<Py_hash_t><PyObject *>value if hash == NO_HASH else hash)

@@ -13,14 +13,21 @@ from claims import asked_once, contains, pickled, rejected_states
 from columns import columns_go_round, columns_of_all_kinds, painted_columns, rejected_columns
 from concurrent_calls import changes_wait, other_threads_run, signals_are_seen
 from few import few_rows, few_rows_in_place, few_rows_refused
-from interface import examples, types
+from interface import examples, pages, types
 from memory import collected, memory_is_flat, refused, refused_memory, sanitized, values_are_dropped
 from nomemory import python_allocations_fail
 from others import dask_names, numpy_arrays, signatures, sizes, typed, version
 from private import iterators_are_not_copied, private_classes
 from room import removals_give_room_back, values_keep_their_entries
 from rounds import rounds
+from two_maps import (
+    changed_meanwhile, compared_in_one_pass, compared_maps, compared_once, differences, frozen_gaps, frozen_operators, spread_hashes, unions
+)
 from wild import wild_values
+from without_hash import (
+    arrays_as_values, changed_values, copied_and_pickled, hashes_that_raise, lists_are_dropped, no_hash_of_a_map, operators_of_lists, points,
+    values_without_hash
+)
 
 CASES = [values_of_all_kinds, changed_while_iterated, updated_ranges, wild_values, values_are_dropped, collected, memory_is_flat, subclasses,
          arrays, many_entries, threads, printed, refused_memory, sanitized, examples, types]
@@ -29,6 +36,10 @@ CASES += [columns_go_round, painted_columns, rejected_columns, columns_of_all_ki
 CASES += [iterators_are_not_copied, private_classes, removals_give_room_back, values_keep_their_entries, python_allocations_fail,
           few_rows, few_rows_in_place, few_rows_refused, changes_wait, other_threads_run,
           signals_are_seen]
+CASES += [values_without_hash, changed_values, copied_and_pickled, operators_of_lists, no_hash_of_a_map, hashes_that_raise,
+          lists_are_dropped, points]
+CASES += [compared_maps, compared_once, compared_in_one_pass, changed_meanwhile, differences, unions, frozen_operators, frozen_gaps,
+          spread_hashes, pages, arrays_as_values]
 
 
 def main():

@@ -14,7 +14,6 @@ def values_of_all_kinds():
     same([type(value) for _, _, value in m], [int, bool, float, str, frozenset, type(None)], "values")
     m = RangeMap([(0, 1, NAN), (1, 2, OTHER_NAN), (2, 3, NAN), (3, 4, NAN)])
     same([(start, stop, id(value)) for start, stop, value in m], [(0, 1, id(NAN)), (1, 2, id(OTHER_NAN)), (2, 4, id(NAN))], "NaN")
-    same(result_of(lambda: m.__setitem__(0, []), TypeError), TypeError, "a value without a hash")
     same(result_of(lambda: hash(m), TypeError), TypeError, "hash")
     same(result_of(lambda: m | {}, TypeError), TypeError, "| of another type")
     same(result_of(lambda: m < {}, TypeError), TypeError, "< of another type")
@@ -43,17 +42,19 @@ def changed_while_iterated():
             10, 14, lambda old: None), lambda: m.__isub__(RangeMap([(16, 17, 0)])), lambda: m.__ixor__(RangeMap([(16, 17, 0)])),
         lambda: m.__iand__(m[18:]), lambda: m.split(100), m.clear,
     ]
-    makers = [iter, reversed, lambda m: m.overlapping(0, 200), lambda m: m.gaps(0, 200)]
+    other = RangeMap([(-1, 300, "other")])
+    makers = [iter, reversed, lambda m: m.overlapping(0, 200), lambda m: m.gaps(0, 200), lambda m: m.ranges(0, 200),
+              lambda m: m.diff(other), lambda m: other.diff(m)]
     for call in no_changes:
         iterators = [make(m) for make in makers]
         call()
-        same([type(next(each)) for each in iterators], 4 * [tuple], "an iterator after a call that changed nothing")
+        same([type(next(each)) for each in iterators], len(makers) * [tuple], "an iterator after a call that changed nothing")
     for number, call in enumerate(changes):
         iterators = [make(m) for make in makers]
         for each in iterators:
             next(each)
         call()
-        same([result_of(lambda: next(each), RuntimeError) for each in iterators], 4 * [RuntimeError], f"an iterator after change {number}")
+        same([result_of(lambda: next(each), RuntimeError) for each in iterators], len(makers) * [RuntimeError], f"an iterator after change {number}")
     done = iter(m)
     same(list(done), [], "an empty iterator")
     m[1] = 1
@@ -63,6 +64,10 @@ def changed_while_iterated():
 def updated_ranges():
     class Stop(Exception):
         pass
+
+    class NoHash:
+        def __hash__(self):
+            raise ArithmeticError
 
     entries = [(1, 4, "a"), (6, 8, None), (8, 9, "b"), (12, 20, "c")]
     pieces = ["gap", "a", "gap", None, "b", "gap", "c"]
@@ -75,7 +80,7 @@ def updated_ranges():
             given.append(old)
             return act(m, old, len(given))
 
-        result = result_of(lambda: m.update_range(0, 15, function, *more), Stop, RuntimeError, TypeError, OverflowError)
+        result = result_of(lambda: m.update_range(0, 15, function, *more), Stop, RuntimeError, ArithmeticError)
         return result, list(m), given
 
     def raising(at):
@@ -106,8 +111,8 @@ def updated_ranges():
     for change in (list, len, lambda m: m.update_range(0, 15, lambda old: old, "gap"), lambda m: m.__setitem__(2, "a"), lambda m: m.copy()):
         same(called(changing(3, change), "gap"), (None, [(0, 15, "new"), (15, 20, "c")], pieces), "a function that changes nothing")
     for at in range(1, len(pieces) + 1):
-        same(called(lambda m, old, number: [] if number == at else 1), (TypeError, entries, [None if old == "gap" else old for old in pieces]),
-             f"a result without a hash at call {at}")
+        same(called(lambda m, old, number: NoHash() if number == at else 1), (ArithmeticError, entries, [None if old == "gap" else old
+             for old in pieces]), f"a result whose hash raises at call {at}")
     same(called(lambda m, old, number: old, "gap"), (None, entries, pieces), "what is there")
     same(called(lambda m, old, number: old), (None, [row for row in entries if row[2] is not None], [None if old == "gap" else old
          for old in pieces]), "None in place of no value")
@@ -194,6 +199,22 @@ def many_entries():
     same((len(m), m.count(), sum(1 for _ in m.gaps(0, 2 * count - 1))), (count, count, count - 1), "their counts")
     same(m.freeze().get_many(array("q", range(2 * count)))[::2], list(range(count)), "their values")
     same(list(m.overlapping(777, 9999)), entries[389:5000], "a part of them")
+    same(list(m.ranges()), [entry[:2] for entry in entries], "their ranges")
+    touching = RangeMap((key, key + 1, key) for key in range(count))
+    del touching[777], touching[12_345]
+    changed = m.copy()
+    changed[1000], changed[1001] = "x", "y"
+    del changed[20_000]
+    wanted = [(1000, 1001, 500, "x"), (1001, 1002, None, "y"), (20_000, 20_001, 10_000, None)]
+    for each in (touching, touching.freeze()):
+        same(list(each.ranges()), [(0, 777), (778, 12_345), (12_346, count)], "ranges of entries that touch")
+        same(list(each.ranges(600, 13_000)), [(600, 777), (778, 12_345), (12_346, 13_000)], "a part of these")
+        same((each.has_all(778, 12_345), each.has_all(778, 12_346), each.find_gap(1), each.find_gap(1, 0, count, last=True)), (
+            True, False, LEAST, 12_345), "full parts of them")
+    for one, other in ((m, changed), (m.freeze(), changed), (m, changed.freeze())):
+        same(list(one.diff(other)), wanted, "what changed in them")
+        same((one == other, one == m, other == changed[:]), (False, True, True), "== of them")
+    same(m.union(changed, touching)[1001:12_345] == touching[1001:12_345], True, "their union")
 
 
 def threads():

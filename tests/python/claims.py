@@ -62,13 +62,15 @@ LOOKUPS = [
     lambda m, k: m.get(k), lambda m, k: m[k], lambda m, k: k in m, lambda m, k: m.entry_at(k), lambda m, k: m.gap_at(k), lambda m, k: m[k:],
     lambda m, k: m[:k], lambda m, k: m.count(k), lambda m, k: m.count(stop=k), lambda m, k: list(m.overlapping(k)),
     lambda m, k: list(m.overlapping(stop=k, reverse=True)), lambda m, k: list(m.gaps(k)), lambda m, k: list(m.gaps(None, k)),
-    lambda m, k: m.get_many([k]), lambda m, k: m.get_many((k, 5)),
+    lambda m, k: m.get_many([k]), lambda m, k: m.get_many((k, 5)), lambda m, k: m.entry_at_or_above(k), lambda m, k: m.entry_at_or_below(k),
+    lambda m, k: m.has_any(k), lambda m, k: m.has_any(stop=k), lambda m, k: m.has_all(k), lambda m, k: m.has_all(None, k),
+    lambda m, k: list(m.ranges(k)), lambda m, k: list(m.ranges(stop=k)), lambda m, k: m.find_gap(k), lambda m, k: m.find_gap(1, k),
+    lambda m, k: m.find_gap(1, None, k, last=True),
 ]
 CHANGES = [
     lambda m, k: m.__setitem__(k, 1), lambda m, k: m.__delitem__(k), lambda m, k: m.__setitem__(slice(k, None), 1),
     lambda m, k: m.__setitem__(slice(None, k), 1), lambda m, k: m.__delitem__(slice(k, None)), lambda m, k: m.pop(k),
     lambda m, k: m.pop(k, None), lambda m, k: m.setdefault(k, None, 1), lambda m, k: m.setdefault(None, k, 1), lambda m, k: m.split(k),
-    lambda m, k: m.find_gap(k), lambda m, k: m.find_gap(1, k), lambda m, k: m.find_gap(1, None, k, last=True),
     lambda m, k: m.update([(k, None, 1)]), lambda m, k: m.update([(None, k, 1), (5, 6, 2)]), lambda m, k: RangeMap([(k, None, 1)]),
     lambda m, k: FrozenRangeMap([(None, k, 1)]), lambda m, k: m.update_range(k, None, lambda old: 1),
     lambda m, k: m.update_range(None, k, lambda old: 1), lambda m, k: m.paint_many([k], [END], [1]),
@@ -79,6 +81,7 @@ ON_RANGES = [
     lambda m, a, b: m[a:b], lambda m, a, b: m.count(a, b), lambda m, a, b: m.__setitem__(slice(a, b), 1),
     lambda m, a, b: m.__delitem__(slice(a, b)), lambda m, a, b: m.setdefault(a, b, 1), lambda m, a, b: m.update([(a, b, 1)]),
     lambda m, a, b: m.update_range(a, b, lambda old: 1), lambda m, a, b: m.find_gap(3, a, b), lambda m, a, b: list(m.gaps(a, b)),
+    lambda m, a, b: m.has_any(a, b), lambda m, a, b: m.has_all(a, b), lambda m, a, b: list(m.ranges(a, b)),
 ]
 
 
@@ -135,8 +138,8 @@ STATES = [
     (ONE, TWO, None, ["a"], None), (None, TWO, NONE, ["a"], None), (ONE, None, NONE, ["a"], None),
     (array("d", [1]), TWO, NONE, ["a"], None), (ONE, ["2"], NONE, ["a"], None), (ONE, [2**70], NONE, ["a"], None), ([-(2**70)], TWO, NONE, ["a"], None),
     (ONE, [2.5], NONE, ["a"], None),
-    # values that have no hash, or can't be compared
-    (ONE, TWO, NONE, [[]], None), (ONE, TWO, NONE, [Unequal()], 5), ([1, 4], [2, 5], [0, 1], [Unequal(), Unequal()], None),
+    # values that can't be compared
+    (ONE, TWO, NONE, [Unequal()], 5), ([1, 4], [2, 5], [0, 1], [Unequal(), Unequal()], None),
 ]
 STATES += [(ONE, TWO, NONE, ["a"], attributes) for attributes in (
     5, (), (1,), (1, 2), "ab", ({},), ({}, {}, {}), ({}, 5), (5, {}), (None, {}), ([], []), ({}, {"copy": 5}), ({}, {"other": 5}),

@@ -102,6 +102,13 @@ def painted_columns():
             same(list(m.gaps(base, base + 24)), gaps_of(plain, base, base + 24), "the gaps after paint_many")
 
 
+class Unhashed:
+    """A value whose hash raises, but no TypeError."""
+
+    def __hash__(self):
+        raise ArithmeticError
+
+
 def rejected_columns():
     m = RangeMap([(1, 6, "a")])
     before = list(m)
@@ -109,7 +116,8 @@ def rejected_columns():
              ([END + 1], [END], ["b"], OverflowError), ([LEAST - 1], [3], ["b"], OverflowError), ([1], [END + 1], ["b"], OverflowError),
              ([1], [LEAST - 1], ["b"], OverflowError), ([2**70], [2**71], ["b"], OverflowError), (["1"], [2], ["b"], TypeError),
              ([1], [2.0], ["b"], TypeError), ([1], [None], ["b"], TypeError), (1, 2, ["b"], TypeError), ([1], [2], 5, TypeError),
-             ([1], [2], [[]], TypeError), ([5, 1], [7, 2**64], ["b", "c"], OverflowError), ([5, 1], [7, 2], ["b", []], TypeError)]
+             ([1], [2], [Unhashed()], ArithmeticError), ([5, 1], [7, 2**64], ["b", "c"], OverflowError),
+             ([5, 1], [7, 2], ["b", Unhashed()], ArithmeticError)]
     for starts, stops, values, error in wrong:
         same(result_of(lambda: m.paint_many(starts, stops, values), Exception), error, f"paint_many of {starts} {stops} {values}")
         same(list(m), before, "the map after that")

@@ -19,6 +19,8 @@ LONG = {
     "repr": lambda m, n: repr(m), "update": lambda m, n: m.update([(key, key + 1, 5) for key in range(1, 3 * COUNT, 3)]),
     "copies": lambda m, n: [m.copy() for _ in range(5)], "freeze": lambda m, n: m.freeze(),
     "update_range": lambda m, n: m.update_range(None, None, str, "gap"), "complement": lambda m, n: [m.complement(1) for _ in range(5)],
+    "union": lambda m, n: m.union(n), "diff": lambda m, n: sum(1 for _ in m.diff(n)), "diff of equal maps": lambda m, n: list(m.diff(m.copy())),
+    "frozen |": lambda m, n: m.freeze() | n,
 }
 
 

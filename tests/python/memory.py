@@ -143,6 +143,10 @@ def refused():
         lambda m, n, s, f: m.__setstate__(n.__reduce__()[2]), lambda m, n, s, f: RangeMap(n), lambda m, n, s, f: m.clear(),
         lambda m, n, s, f: list(m.gaps()), lambda m, n, s, f: m.get_many(starts),
         lambda m, n, s, f: m.paint_many(list(starts), list(stops), range(150)), lambda m, n, s, f: f.get_many(list(starts)),
+        lambda m, n, s, f: m.union(n, s, f), lambda m, n, s, f: f.union(n, s), lambda m, n, s, f: f | n, lambda m, n, s, f: f & n,
+        lambda m, n, s, f: f - n, lambda m, n, s, f: f ^ n, lambda m, n, s, f: list(m.diff(n)), lambda m, n, s, f: list(m.ranges()),
+        lambda m, n, s, f: m == RangeMap((4 * key, 4 * key + 3, float(key % 50)) for key in range(150)),
+        lambda m, n, s, f: m.setdefault(0, 3000, []), lambda m, n, s, f: m.update((key, key + 1, []) for key in range(0, 400, 2)),
     ]
     passed = failed = 0
     for number, call in enumerate(calls):
@@ -225,5 +229,6 @@ def sanitized():
         subprocess.run([compiler, "-shared", "-fPIC", "-O1", "-w", "-fsanitize=address", *include, "-o", str(
             package / f"__init__{sysconfig.get_config_var('EXT_SUFFIX')}"), str(source), str(out / "librange_map.a")], check=True)
         environment = {"LD_PRELOAD": asan, "ASAN_OPTIONS": "detect_leaks=0", "PYTHONMALLOC": "malloc", "RANGE_MAP_PYTHON": folder}
-        cases = ["wild_values", "values_of_all_kinds", "subclasses", "columns_of_all_kinds", "rejected_states"]
+        cases = ["wild_values", "values_of_all_kinds", "subclasses", "columns_of_all_kinds", "rejected_states", "values_without_hash",
+                 "lists_are_dropped", "copied_and_pickled", "changed_meanwhile", "compared_once", "differences", "unions", "frozen_operators"]
         counted([sys.executable, str(here), *cases], environment, "the address sanitizer")

@@ -41,6 +41,7 @@ LOOKUPS = {
     "__class_getitem__": [lambda m, n: type(m)[int]], "__copy__": [lambda m, n: copy.copy(m)], "copy": [lambda m, n: m.copy()],
     "__reduce__": [lambda m, n: m.__reduce__()],
     "__init__": [lambda m, n: type(m)(m), lambda m, n: type(m)([(1, 5, "x"), (3, 9, Equal(5))]), lambda m, n: type(m)(iter(m)),
+                 lambda m, n: type(m)([(1, 5, []), (3, 9, {}), (9, 11, ({},))]),
                  lambda m, n: type(m)((key, key + 1, Equal(key)) for key in range(30))],
     "count": [lambda m, n: (m.count(), m.count(3, 50), m.count(None, 9))], "entry_at": [lambda m, n: (m.entry_at(3), m.entry_at(60000))],
     "first": [lambda m, n: m.first()], "last": [lambda m, n: m.last()], "freeze": [lambda m, n: m.freeze()],
@@ -48,13 +49,23 @@ LOOKUPS = {
     "gap_at": [lambda m, n: (m.gap_at(3), m.gap_at(60000))], "gaps": [lambda m, n: list(m.gaps(0, 2**63))],
     "get": [lambda m, n: (m.get(3), m.get(60000), m.get(2**70, 5))], "get_many": [lambda m, n: m.get_many(KEYS), lambda m, n: m.get_many(KEYS.tolist())],
     "overlapping": [lambda m, n: list(m.overlapping(5, 40)), lambda m, n: list(m.overlapping(5, 40, reverse=True))],
+    "entry_at_or_above": [lambda m, n: (m.entry_at_or_above(3), m.entry_at_or_above(60000))],
+    "entry_at_or_below": [lambda m, n: (m.entry_at_or_below(3), m.entry_at_or_below(-60000))],
+    "has_any": [lambda m, n: (m.has_any(3, 50), m.has_any(2**70))], "has_all": [lambda m, n: (m.has_all(0, 3), m.has_all(0, 2**70))],
+    "find_gap": [lambda m, n: (m.find_gap(2), m.find_gap(2, 0, 90, last=True), m.find_gap(2**64), m.find_gap(0))],
+    "ranges": [lambda m, n: list(m.ranges()), lambda m, n: list(m.ranges(5, 2**63))],
+    "diff": [lambda m, n: list(m.diff(n)), lambda m, n: list(n.freeze().diff(m, "gap"))],
+    "union": [lambda m, n: m.union(n, n.freeze(), m), lambda m, n: m.union()],
+    "__or__": [lambda m, n: m | n, lambda m, n: m | n.freeze()], "__and__": [lambda m, n: m & n], "__sub__": [lambda m, n: m - n],
+    "__xor__": [lambda m, n: m ^ n],
 }
+LOOKUPS |= {name: [lambda m, n, name=name: getattr(m, name)(n)] for name in ("__ror__", "__rand__", "__rsub__", "__rxor__")}
 FROZEN_LOOKUPS = {"__hash__": [lambda m, n: hash(m), lambda m, n: hash(m[1:])],
                   "__setstate__": [lambda m, n: FrozenRangeMap.__new__(FrozenRangeMap).__setstate__(m.__reduce__()[2])]}
 # Calls of a RangeMap that change it, or make another map.
 CALLS = {
     "__setitem__": [lambda m, n: m.__setitem__(slice(2, 50), Equal(9)), lambda m, n: m.__setitem__(5, "x"), lambda m, n: m.__setitem__(
-        slice(None, 70), 70**9), lambda m, n: m.__setitem__(slice(None, None), Equal(9))],
+        slice(None, 70), 70**9), lambda m, n: m.__setitem__(5, []), lambda m, n: m.__setitem__(5, ([],)), lambda m, n: m.__setitem__(slice(None, None), Equal(9))],
     "__delitem__": [lambda m, n: m.__delitem__(slice(2, 50)), lambda m, n: m.__delitem__(4), lambda m, n: m.__delitem__(slice(None, None))],
     "setdefault": [lambda m, n: m.setdefault(0, 90, Equal(9))], "pop": [lambda m, n: (m.pop(4), m.pop(-4, 5))],
     "popitem": [lambda m, n: m.popitem(), lambda m, n: m.popitem(last=False)], "clear": [lambda m, n: m.clear()], "split": [lambda m, n: m.split(20)],
@@ -63,10 +74,7 @@ CALLS = {
     "paint_many": [lambda m, n: m.paint_many(KEYS, KEYS[1:] + KEYS[:1], [Equal(key) for key in KEYS])],
     "update_range": [lambda m, n: m.update_range(2, 40, lambda old: (old,)), lambda m, n: m.update_range(0, 90, lambda old: None),
                      lambda m, n: m.update_range(0, 3, lambda old: 5, "gap")],
-    "complement": [lambda m, n: m.complement(Equal(9))], "find_gap": [lambda m, n: (m.find_gap(2), m.find_gap(2, 0, 90, last=True), m.find_gap(
-        2**64), m.find_gap(0))],
-    "__or__": [lambda m, n: m | n, lambda m, n: m | n.freeze()], "__and__": [lambda m, n: m & n], "__sub__": [lambda m, n: m - n],
-    "__xor__": [lambda m, n: m ^ n], "__ior__": [lambda m, n: m.__ior__(n)], "__iand__": [lambda m, n: m.__iand__(n)],
+    "complement": [lambda m, n: m.complement(Equal(9))], "__ior__": [lambda m, n: m.__ior__(n)], "__iand__": [lambda m, n: m.__iand__(n)],
     "__isub__": [lambda m, n: m.__isub__(n)], "__ixor__": [lambda m, n: m.__ixor__(n)],
     "__setstate__": [lambda m, n: m.__setstate__(n.__reduce__()[2])],
 }
@@ -74,11 +82,11 @@ CALLS = {
 ERRORS = {
     "wrong arguments": [lambda m, n: m["a"], lambda m, n: m.get(1.5), lambda m, n: m[0:4:2], lambda m, n: m.get_many(array("d", [1])),
                         lambda m, n: m.get_many("ab"), lambda m, n: m.get_many(memoryview(b"ab").cast("B", (1, 2))), lambda m, n: m.count("a"),
-                        lambda m, n: m[3], lambda m, n: type(m)([(1, 2)]), lambda m, n: type(m)([(1, "a", 2)]), lambda m, n: type(m)([(1, 2, [])]),
+                        lambda m, n: m[3], lambda m, n: type(m)([(1, 2)]), lambda m, n: type(m)([(1, "a", 2)]), lambda m, n: hash(FrozenRangeMap([(1, 2, [])])),
                         lambda m, n: type(m)([(1, 2**70, 2)]), lambda m, n: type(m).from_arrays(KEYS, KEYS, "a"),
-                        lambda m, n: type(m).from_arrays(KEYS[::-1], KEYS, [5] * len(KEYS)), lambda m, n: m < {}, lambda m, n: type(iter(m))()],
+                        lambda m, n: type(m).from_arrays(KEYS[::-1], KEYS, [5] * len(KEYS)), lambda m, n: m < {}, lambda m, n: type(iter(m))(), lambda m, n: m.diff({}),
+                        lambda m, n: m.union(n, 5), lambda m, n: m | 5],
 }
-CALLS |= {name: [lambda m, n, name=name: getattr(m, name)(n)] for name in ("__ror__", "__rand__", "__rsub__", "__rxor__")}
 NO_CALLS = {name for name in dir(object) if name not in LOOKUPS} | {"__doc__", "__module__", "__pyx_vtable__", "__hash__", "__weakref__"}
 NO_CALLS |= {"__array__", "__array_ufunc__", "__dask_tokenize__"}  # (these are calls of NumPy and of Dask)
 
@@ -90,7 +98,7 @@ def maps(kind):
     count = 4 if kind is not RangeMap else 40
     m = RangeMap((4 * key, 4 * key + 3, Equal(key)) for key in range(count))
     m[-1000:-995], m[1000:1005] = Equal(7), Equal(7)  # (numbers that Python allocates)
-    n = RangeMap([(2, 7, Equal(1)), (9, 10, "b")])
+    n = RangeMap([(2, 7, Equal(1)), (9, 10, "b"), (12, 14, [1]), (14, 15, [1])])
     if kind is Named:
         named = Named(m)
         named.name = "name"

@@ -151,7 +151,8 @@ def names_in_stub():
         for method in kind.body if isinstance(kind, ast.ClassDef) else ():
             if isinstance(method, ast.FunctionDef):
                 last = [each.arg for each in method.args.kwonlyargs]
-                names[kind.name if kind.name in range_map.__all__ else None, method.name] = [each.arg for each in method.args.args[1:]] + ["*"] * bool(last) + last
+                more = [f"*{method.args.vararg.arg}"] if method.args.vararg else ["*"] * bool(last)
+                names[kind.name if kind.name in range_map.__all__ else None, method.name] = [each.arg for each in method.args.args[1:]] + more + last
     return names
 
 
@@ -169,6 +170,7 @@ def signatures():
     m = RangeMap()
     same(str(inspect.signature(m.find_gap)), "(length, start=None, stop=None, *, last=False)", "find_gap")
     same(str(inspect.signature(m.update_range)), "(start, stop, function, missing=None)", "update_range")
+    same((str(inspect.signature(m.diff)), str(inspect.signature(m.union))), ("(other, missing=None)", "(*others)"), "diff and union")
     same(str(inspect.signature(RangeMap.from_arrays)), "(starts, stops, values)", "from_arrays")
     for call in (lambda: RangeMap.get(5, 3), lambda: RangeMap.copy(FrozenRangeMap()), lambda: FrozenRangeMap.freeze(m)):
         same(result_of(call, TypeError), TypeError, "a method of another object")

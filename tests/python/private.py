@@ -10,7 +10,8 @@ from range_map import FrozenRangeMap, RangeMap
 def iterators():
     """Iterators of both maps, each after its first item."""
     m = RangeMap([(1, 6, "a"), (8, 10, "b"), (12, 13, "c")])
-    made = [make() for each in (m, m.freeze()) for make in (each.__iter__, each.__reversed__, each.overlapping, each.gaps)]
+    made = [make() for each in (m, m.freeze()) for make in (
+        each.__iter__, each.__reversed__, each.overlapping, each.gaps, each.ranges, lambda: each.diff(RangeMap()))]
     for each in made:
         next(each)
     return made
@@ -27,7 +28,7 @@ def iterators_are_not_copied():
 
 def private_classes():
     same([name for name in vars(range_map) if not name.startswith("__") and name not in range_map.__all__], [], "names")
-    kinds = {type(each) for each in iterators()} | {RangeMap.__base__, FrozenRangeMap.__base__}
+    kinds = {type(each) for each in iterators()} | {*RangeMap.__mro__[1:-1], *FrozenRangeMap.__mro__[1:-1]}
     waiting = [object]
     while waiting:
         kind = waiting.pop()

@@ -4,8 +4,12 @@ import pickle
 import random
 from array import array
 
-from model import END, Equal, KEYS, LEAST, NAN, OTHER_NAN, VALUES, gaps_of, mark, marked, result_of, runs_of, same
+from model import END, Equal, KEYS, LEAST, NAN, OTHER_NAN, VALUES, differences_of, gaps_of, has_hash, mark, marked, ranges_of, result_of, runs_of, same
 from range_map import FrozenRangeMap, RangeMap
+
+
+def hash_or_none(frozen):
+    return result_of(lambda: hash(frozen), TypeError)
 
 
 class Side:
@@ -16,8 +20,11 @@ class Side:
 
     def give(self, value):
         """An object that is put into the map."""
-        if random.random() < 0.5:
+        kind = random.random()
+        if kind < 0.5:
             value = Equal(random.randrange(3))
+        elif kind < 0.55:
+            value = []
         self.put[id(value)] = value
         return value
 
@@ -118,6 +125,10 @@ class Round:
         same(marked([map.entry_at(key)] if key in plain else []), marked(around), "entry_at")
         gap = [gap for gap in gaps_of(plain, LEAST, END) if gap[0] <= key < gap[1]]
         same([map.gap_at(key)] if gap else [], gap, "gap_at")
+        above = [run for run in runs_of(plain) if key < run[1]][:1]
+        below = [run for run in runs_of(plain) if run[0] <= key][-1:]
+        same(marked(filter(None, [map.entry_at_or_above(key)])), marked(above), "entry_at_or_above")
+        same(marked(filter(None, [map.entry_at_or_below(key)])), marked(below), "entry_at_or_below")
         keys = array("q", [self.key() for _ in range(5)])
         same([mark(value) for value in map.get_many(keys)], [mark(plain.get(key)) for key in keys], "get_many")
 
@@ -129,6 +140,11 @@ class Round:
         same(marked(map.overlapping(start, stop)), marked(shared), "overlapping")
         same(marked(map.overlapping(start, stop, reverse=True)), marked(shared[::-1]), "overlapping, descending")
         same(list(map.gaps(start, stop)), gaps_of(self.one.plain, start, stop), "gaps")
+        within = self.within(start, stop)
+        same(list(map.ranges(start, stop)), ranges_of(within), "ranges")
+        same(list(map.ranges()), ranges_of(self.one.plain), "all ranges")
+        same((map.has_any(start, stop), map.has_any()), (len(within) > 0, len(self.one.plain) > 0), "has_any")
+        same((map.has_all(start, stop), map.has_all()), (len(within) == max(0, stop - start), False), "has_all")
         same(marked(map[start:stop]), marked(runs_of(self.within(start, stop))), "a slice")
         same((map.count(start, stop), map.count(), len(map)), (len(self.within(start, stop)), len(self.one.plain), len(runs)), "count")
         same(marked(map), marked(runs), "ascending")
@@ -139,17 +155,23 @@ class Round:
         frozen = self.one.map.freeze()
         self.look_up(frozen)
         self.on_range(frozen)
-        same((frozen == self.one.map, hash(frozen) == hash(pickle.loads(pickle.dumps(frozen)))), (True, NAN not in
-             self.one.plain.values() and OTHER_NAN not in self.one.plain.values() or hash(frozen) == hash(
-                 pickle.loads(pickle.dumps(frozen)))), "a frozen map")
+        same(frozen == self.one.map, True, "a frozen map")
+        if not all(map(has_hash, self.one.plain.values())):
+            same(result_of(lambda: hash(frozen), TypeError), TypeError, "the hash of a map with a value that has none")
+            return
         same(hash(frozen), hash(RangeMap(frozen).freeze()), "the hash of an equal map")
+        if not any(value is NAN or value is OTHER_NAN for value in self.one.plain.values()):
+            same(hash(frozen), hash(pickle.loads(pickle.dumps(frozen))), "the hash of a pickle")
 
     def find_gap(self):
         start, stop = self.ends()
         length = self.choose.randrange(1, 8)
         free = [key for key in range(start, stop - length + 1) if not any(at in self.one.plain for at in range(key, key + length))]
-        same(self.one.map.find_gap(length, start, stop), free[0] if free else None, "find_gap")
-        same(self.one.map.find_gap(length, start, stop, last=True), free[-1] if free else None, "find_gap, last")
+        gaps = [gap for gap in gaps_of(self.one.plain, LEAST, END) if gap[1] - gap[0] >= length]
+        for map in (self.one.map, self.one.map.freeze()):
+            same(map.find_gap(length, start, stop), free[0] if free else None, "find_gap")
+            same(map.find_gap(length, start, stop, last=True), free[-1] if free else None, "find_gap, last")
+            same((map.find_gap(length), map.find_gap(length, last=True)), (gaps[0][0], gaps[-1][1] - length), "find_gap of all keys")
 
     def update_range(self):
         start, stop = self.ends()
@@ -199,8 +221,13 @@ class Round:
         wanted = {"|": a | b, "&": both, "-": left, "^": left | {key: b[key] for key in b if key not in a}}
         other = self.choose.choice([self.other.map, self.other.map.freeze()])
         for sign, plain in wanted.items():
+            frozen = self.one.map.freeze()
+            kept = hash_or_none(frozen)
+            got = eval(f"f {sign} n", {"f": frozen, "n": other})
+            same((marked(got), type(got)), (marked(runs_of(plain)), FrozenRangeMap), f"{sign} of a frozen map")
+            same((marked(frozen), hash_or_none(frozen)), (marked(runs_of(a)), kept), "the frozen map")
             got = eval(f"m {sign} n", {"m": self.one.map, "n": other})
-            same(marked(got), marked(runs_of(plain)), sign)
+            same((marked(got), type(got)), (marked(runs_of(plain)), RangeMap), sign)
             changed = kept = self.one.map.copy()
             changed = eval(f"m.__i{ {'|': 'or', '&': 'and', '-': 'sub', '^': 'xor'}[sign] }__(n)", {"m": changed, "n": other})
             same((changed is kept, changed == got), (True, True), f"{sign}=")
@@ -209,6 +236,32 @@ class Round:
         self.one.map = eval(f"m {sign} n", {"m": self.one.map, "n": other})
         self.one.plain = wanted[sign]
         self.one.put.update(self.other.put)
+
+    def union(self):
+        sides = [self.choose.choice([self.one, self.other]) for _ in range(self.choose.randrange(5))]
+        extra = Side()
+        for _ in range(self.choose.randrange(4)):
+            start, stop = self.ends()
+            value = self.value()
+            extra.map[start:stop] = value
+            extra.plain.update(dict.fromkeys(range(start, stop), value))
+        sides.insert(self.choose.randrange(len(sides) + 1), extra)
+        maps = [self.choose.choice([side.map, side.map.freeze()]) for side in sides]
+        plain = {}
+        for side in sides:
+            plain.update(side.plain)
+        for first in (maps[0], RangeMap(), FrozenRangeMap()):
+            got = first.union(*maps)
+            same((marked(got), type(got)), (marked(runs_of(plain)), type(first)), "union")
+        same([marked(side.map) for side in sides], [marked(runs_of(side.plain)) for side in sides], "the maps after a union")
+
+    def diff(self):
+        missing = self.choose.choice([None, "gap"])
+        for m, n in ((self.one.map, self.other.map), (self.one.map.freeze(), self.other.map), (self.one.map, self.other.map.freeze())):
+            got = list(m.diff(n, missing))
+            wanted = differences_of(self.one.plain, self.other.plain, missing)
+            same([(*row[:2], mark(row[2]), mark(row[3])) for row in got], [(*row[:2], mark(row[2]), mark(row[3])) for row in wanted], "diff")
+            same((got == [], list(m.diff(m)), list(m.diff(m.copy()))), (m == n, [], []), "diff of equal maps")
 
     def with_itself(self):
         m = self.one.map
@@ -262,6 +315,10 @@ class Round:
         m, (start, stop) = self.one.map, sorted((self.key(), self.key()))
         for key in (LEAST - 1, END, 2**64, -(2**70)):
             same((m.get(key), key in m, m.entry_at(key), m.gap_at(key), m.pop(key, 1)), (None, False, None, None, 1), "no key")
+            for each in (m, m.freeze()):
+                rows = list(each) or [None]
+                near = (rows[0], None) if key < 0 else (None, rows[-1])
+                same((each.entry_at_or_above(key), each.entry_at_or_below(key)) == near, True, "the nearest entries")
             same(result_of(lambda: m[key], KeyError), KeyError, "no key")
             same(result_of(lambda: m.__delitem__(key), KeyError), KeyError, "no key")
             same(result_of(lambda: m.__setitem__(key, 1), OverflowError), OverflowError, "no key")
@@ -269,7 +326,11 @@ class Round:
             m[slice(*ends)] = []
             m.update([(*ends, [])])
             same((m.setdefault(*ends, []), list(m.gaps(*ends)), m.count(*ends), list(m[slice(*ends)])), (False, [], 0, []), "no keys")
+            same((list(m.ranges(*ends)), m.has_any(*ends), m.has_all(*ends), m.find_gap(1, *ends)), ([], False, True, None), "no keys")
         for ends in ((LEAST - 1, stop), (start, END + 1), (2**70, 2**71), (-(2**70), None), (-(2**71), -(2**70))):
+            same((m.has_all(*ends), m.freeze().has_all(*ends)), (False, False), "a range with other keys is not full")
+            first, last = (LEAST - 1 if end is None else end for end in ends)
+            same(m.has_any(*ends), any(first <= key and (ends[1] is None or key < last) for key in self.one.plain), "has_any of such a range")
             for call in (lambda: m.__setitem__(slice(*ends), 1), lambda: m.setdefault(*ends, 1), lambda: m.update([(*ends, 1)]),
                          lambda: m.update([(start, stop, 1), (*ends, 1)])):
                 same(result_of(call, OverflowError), OverflowError, "a range with other keys")

@@ -6,7 +6,7 @@ import pickle
 import random
 from array import array
 
-from model import contents, same
+from model import contents, result_of, same
 from range_map import RangeMap
 
 
@@ -46,21 +46,33 @@ class Wild:
             pass
 
 
+class WildWithoutHash(Wild):
+    """A wild value that is compared by identity."""
+
+    __hash__ = None
+
+
+def wild_value(choose):
+    return choose.choice([Wild, Wild, WildWithoutHash])(choose.randrange(12))
+
+
 def wild_calls(choose, m, n):
     """One random call on two maps."""
     start = choose.randrange(-10, 30)
     stop = start + choose.randrange(1, 12)
-    value = Wild(choose.randrange(12))
+    value = wild_value(choose)
     calls = [
         lambda: m.__setitem__(slice(start, stop), value), lambda: m.__setitem__(start, value), lambda: m.__delitem__(slice(start, stop)),
         lambda: m.setdefault(start, stop, value), lambda: m.pop(start, None), lambda: m.update([(start, stop, value),
-        (stop, stop + 2, Wild(choose.randrange(12))), (start, start + 1, Wild(3))]), lambda: m.__ior__(n), lambda: m.__iand__(n),
+        (stop, stop + 2, wild_value(choose)), (start, start + 1, Wild(3))]), lambda: m.__ior__(n), lambda: m.__iand__(n),
         lambda: m.__ixor__(n), lambda: m.__isub__(n), lambda: m | n, lambda: m & n, lambda: n ^ m, lambda: m == n, lambda: m < n,
         lambda: m.update_range(start, stop, lambda old: choose.choice([None, old, value])), lambda: m.copy(), lambda: m[start:stop],
-        lambda: m.update_range(start, stop, lambda old: choose.choice([0, old, value, Wild(choose.randrange(12))]), 0),
-        lambda: m.freeze(), lambda: hash(n.freeze()), lambda: m.complement(value)[start:stop], lambda: m.split(25), lambda: m.get(start),
+        lambda: m.update_range(start, stop, lambda old: choose.choice([0, old, value, wild_value(choose)]), 0),
+        lambda: m.freeze(), lambda: result_of(lambda: hash(n.freeze()), TypeError), lambda: m.complement(value)[start:stop], lambda: m.split(25), lambda: m.get(start),
         lambda: copy.deepcopy(m), lambda: pickle.loads(pickle.dumps(m)), lambda: list(m), lambda: list(m.gaps(0, 30)), m.to_arrays,
         lambda: RangeMap.from_arrays(*m.to_arrays()), lambda: m.entry_at(start), lambda: m.get_many(array("q", range(30))),
+        lambda: m.union(n, m, n.freeze()), lambda: list(m.diff(n)), lambda: n.freeze() | m, lambda: n.freeze() ^ m, lambda: m.freeze() < n,
+        lambda: list(m.ranges()),
     ]
     return choose.choice(calls)
 
@@ -70,7 +82,7 @@ def well_formed(m):
     for (_, stop, value), (start, _, other) in zip(rows, rows[1:]):
         if start < stop or start == stop and value is other:
             raise AssertionError(f"entries that are not in order: {rows}")
-    if not all(type(value) is Wild for _, _, value in rows):
+    if not all(isinstance(value, Wild) for _, _, value in rows):
         raise AssertionError(f"values that were never put into the map: {rows}")
 
 
