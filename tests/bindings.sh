@@ -4,7 +4,8 @@
 # - each function with each of its allocations failing in turn (tests/c/calls.c), and random calls against a model
 #   (tests/c/random_calls.c), both under valgrind too, or under sanitizers if there is no valgrind;
 # - lookups from four threads (tests/c/threads.c), and maps that go from thread to thread (tests/c/hand_over.c), under helgrind and DRD too;
-# - the C++ header (tests/cpp), the package (tests/package.sh), and build.sh (tests/bindings_build.sh);
+# - the C++ header (tests/cpp), and its lines in docs/TASKS.md (tests/cpp_tasks.sh);
+# - the package (tests/package.sh), and build.sh (tests/bindings_build.sh);
 # - the Python module (tests/python) and the Rust crate, with the examples of their docs, and their packages (tests/python_package.sh,
 #   tests/rust_package.sh);
 # - the example in each language, on random tables, against bindings/examples/expected.py (tests/examples.py);
@@ -74,7 +75,12 @@ for compiler in g++ clang++; do
     if has "$compiler"; then
         for standard in c++17 c++20; do
             builds "$compiler -std=$standard" "$compiler" "-std=$standard" "${strict_cpp[@]}" -fsyntax-only tests/cpp/*.cpp
+            builds "$compiler -std=$standard without exceptions" "$compiler" "-std=$standard" "${strict_cpp[@]}" -fno-exceptions -fno-rtti \
+                -fsyntax-only tests/cpp/alone/no_exceptions.cpp
         done
+        dropped="$("$compiler" -std=c++17 -I bindings -fsyntax-only tests/cpp/alone/dropped.cpp 2>&1 | grep 'warning: ignoring return value' || true)"
+        judge "$(grep -n '// dropped$' tests/cpp/alone/dropped.cpp | cut -d : -f 1)" "$(grep -oE 'dropped.cpp:[0-9]+' <<<"$dropped" | cut -d : -f 2 | sort -nu)" \
+            "results that $compiler warns about if they are dropped"
         for types in 'int, double' 'bool, int' 'int, std::vector<int>'; do
             printf '#include "range_map.hpp"\n#include <vector>\nrangemap::map<%s> map;\n' "$types" >"$work/types.cpp"
             "$compiler" -std=c++17 -I bindings -fsyntax-only "$work/types.cpp" >"$work/said" 2>&1 || true
@@ -86,8 +92,32 @@ if has c++; then
     cpp=(-x c++ tests/c/allocation.c tests/cpp/*.cpp -x none "$library" "${wrap[@]}")
     builds "calls from C++, built" c++ -std=c++17 "${strict_cpp[@]}" -O1 -o "$work/cpp" "${cpp[@]}"
     counts "calls from C++" "$work/cpp" 100000 "$RANDOM"
+    # (an iterator leaves what it has not read unset)
+    if command -v valgrind >/dev/null; then counts "calls from C++ under valgrind" valgrind -q --error-exitcode=9 "$work/cpp" 300 "$RANDOM"; fi
     builds "sanitizers" c++ -std=c++20 "${strict_cpp[@]}" -O0 -fsanitize=address,undefined -fno-sanitize-recover=undefined -o "$work/cpp" "${cpp[@]}"
     counts "calls from C++ under sanitizers" "$work/cpp" 10000 "$RANDOM"
+    alone=(-x c++ tests/c/allocation.c tests/cpp/alone/no_exceptions.cpp -x none "$library" "${wrap[@]}")
+    builds "C++ without exceptions, built" c++ -std=c++17 "${strict_cpp[@]}" -fno-exceptions -fno-rtti -O1 -o "$work/alone" "${alone[@]}"
+    counts "C++ without exceptions" "$work/alone"
+    for failing in allocation place table; do
+        # (134 is the status of a program that calls abort)
+        judge 134 "$({ "$work/alone" "$failing" >"$work/said"; } 2>/dev/null && echo 0 || echo $?)" "C++ without exceptions, a $failing that fails"
+    done
+fi
+if has c++; then counts "the lines of C++ of docs/TASKS.md" tests/cpp_tasks.sh; fi
+if has c++ && command -v valgrind >/dev/null; then
+    builds "a walk in C++" c++ -std=c++17 -O2 -I bindings -o "$work/walk" tests/cpp/alone/walk.cpp "$library"
+    counted() { # way, entries, walks
+        valgrind --tool=callgrind --callgrind-out-file=/dev/null "$work/walk" "$@" 2>&1 | sed -n 's/.*Collected : //p'
+    }
+    # The instructions of a walk or of an entry by the header, minus those of the calls of the library that it makes.
+    of_header() { # way, entries, walks, parts
+        echo $((($(counted "$1" "$2" "$3") - $(counted "$1" "$2" 0) - $(counted library "$2" "$3") + $(counted library "$2" 0)) / $4))
+    }
+    of_none="$(of_header for 0 1000 1000)" of_three="$(of_header for 3 1000 1000)" of_entry="$(of_header for 1000 10 10000)"
+    of_algorithm="$(of_header algorithm 1000 10 10000)"
+    judge yes "$([ "$of_none" -le 40 ] && [ "$of_three" -le 100 ] && [ "$of_entry" -le 20 ] && [ "$of_algorithm" -le 20 ] && echo yes)" \
+        "instructions of the C++ header: $of_none for no entries, $of_three for 3, $of_entry for an entry of many, $of_algorithm by an algorithm"
 fi
 
 # ---- Memory and threads

@@ -6,6 +6,7 @@
 # - the words of the lines of a script: crates/script/stdin, tests/bad_lines.txt, tests/refusals.txt and docs/SCRIPT.md have them;
 # - the functions of bindings/range_map.h: crates/range_map_c and bindings/rust have those that the library exports, docs/CALLS.md and the
 #   tests in C those for users;
+# - bindings/range_map*.hpp call functions that the library exports, and none that is `static inline` in bindings/range_map.h;
 # - the names in Rattle, C++, Rust and Python in the last table of docs/CALLS.md: the map or the binding of the language has them, and a
 #   test of the binding.
 # Nothing is built. The last line is 'N passed, M failed'.
@@ -137,8 +138,11 @@ in_column() { # the language
         grep -o '`[^`]*`' | sed -E 's/`([^`(]*).*/\1/' | grep -xE '[a-z_]+' | grep -vxE 'map|collect|is|len|reversed'
 }
 has_no_other "docs/CALLS.md, of Rattle," "$(in_column Rattle)" "$map"$'\n'union
-has_each bindings/range_map.hpp "$(in_column C++)" "$(grep -oE '\b[a-z_]+\(' bindings/range_map.hpp | tr -d '(')"
+has_each 'bindings/range_map*.hpp' "$(in_column C++)" "$(grep -hoE '\b[a-z_]+\(' bindings/range_map*.hpp | tr -d '(')"
 has_each tests/cpp "$(in_column C++)" "$(grep -hoE '[a-z_]+\(' tests/cpp/*.cpp | tr -d '(')"
+# (a template that calls a static function is another one in each file of a program)
+are_in "$(grep -hvE '^ *(#|//)' bindings/range_map*.hpp | grep -oE '\brange_(map|table)_[a-z_]+\b')" "$exports" \
+    'bindings/range_map*.hpp have NAME, which the library does not export'
 has_each bindings/rust/src "$(in_column Rust)" "$(grep -rhoE '\bfn [a-z_]+' bindings/rust/src | sed 's/fn //')"
 has_each bindings/rust/tests "$(in_column Rust)" "$(grep -rhoE '[.:][a-z_]+' bindings/rust/tests | tr -d '.:')"
 has_each bindings/python/range_map/__init__.pyi "$(in_column Python)" "$(grep -oE 'def [a-z_]+' bindings/python/range_map/__init__.pyi | sed 's/def //')"

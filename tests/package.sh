@@ -45,7 +45,8 @@ does "make check" "${make[@]}" check
 judge 'all examples print what they should' "$(grep '^all ' "$work/said")" "what make check says"
 
 # ---- Install
-installed="./include/range_map.h ./include/range_map.hpp ./lib/cmake/range_map/range_map-config-version.cmake \
+installed="./include/range_map.h ./include/range_map.hpp ./include/range_map_combine.hpp ./include/range_map_entry.hpp \
+./include/range_map_iterator.hpp ./include/range_map_table.hpp ./lib/cmake/range_map/range_map-config-version.cmake \
 ./lib/cmake/range_map/range_map-config.cmake ./lib/librange_map.a ./lib/librange_map.so ./lib/librange_map.so.0 \
 ./lib/pkgconfig/range_map.pc ./share/doc/range_map/LICENSE ./share/doc/range_map/LICENSE-APACHE ./share/doc/range_map/LICENSE-MIT ./share/doc/range_map/PROOF \
 ./share/doc/range_map/README"

@@ -5,7 +5,7 @@
 
 int main() {
     rangemap::map<int, unsigned> map = {{10, 49, 7}, {20, 29, 8}};
-    map.erase(40, 44);
+    map.erase_range(40, 44);
     for (auto [first, last, value] : map) std::cout << first << " to " << last << ": " << value << '\n';
     if (auto gap = map.find_gap(10, 99, 5)) std::cout << "5 keys without a value from " << *gap << '\n';
 }

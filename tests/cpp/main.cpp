@@ -1,8 +1,13 @@
 // Tests bindings/range_map.hpp:
 // - types.cpp: which types keys and values may have;
-// - members.cpp: every member, with results that are written out;
+// - members.cpp: members, with results that are written out;
+// - iterators.cpp: walks, and maps made from iterators;
+// - combine.cpp: `combine` of each integer type, against the arithmetic of the type;
+// - tables.cpp: tables, against the map of their rows;
+// - whole_maps.cpp: operators on temporaries, `union_many`, `erase_if` and hashes;
 // - random_calls.cpp: random calls against std::map;
 // - failing.cpp: each allocation of each call failing in turn.
+// tests/bindings.sh compiles the files of alone/ each into a program of its own.
 // The program is linked with --wrap of malloc, realloc and free. Arguments: the number of random calls, and a seed. The last line is 'N
 // passed, M failed'.
 #include "../c/allocation.h"
@@ -48,6 +53,10 @@ int main(int count, char **arguments) {
     std::setvbuf(stdout, nullptr, _IOLBF, BUFSIZ);
     const long blocks_before = blocks;
     test_members();
+    test_iterators();
+    test_combine_of_each_type();
+    test_tables();
+    test_whole_maps();
     test_random_calls(count > 1 ? std::atol(arguments[1]) : 100000);
     test_failing_allocations();
     const long blocks_after = blocks;

@@ -11,7 +11,7 @@ static void judge_list(const numbers &map, const std::vector<numbers::entry> &wa
 
 static void test_empty_map() {
     numbers map;
-    judge(map.empty() && map.size() == 0 && map.count() == 0 && map.begin() == map.end(), "the empty map");
+    judge(map.empty() && map.size() == 0 && map.key_count() == 0 && map.begin() == map.end(), "the empty map");
     judge(!map.first() && !map.last() && !map.pop_first() && !map.pop_last() && !map.next(0) && !map.previous(0), "no keys");
     judge(map.gap_at(5) == std::pair(INT32_MIN, INT32_MAX), "the gap of an empty map");
 }
@@ -21,12 +21,12 @@ static void test_edits() {
     judge(map.paint(10, 49, 7) && map.paint(20, 60, 8) && !map.paint(30, 31, 9), "paint");
     judge(!map.paint(5, 4, 1), "paint of an empty range");
     judge_list(map, {{10, 19, 7}, {20, 29, 8}, {30, 31, 9}, {32, 60, 8}}, "what paint does");
-    judge(map.fill(1, 12, 6) && !map.fill(3, 30, 5), "fill");
+    judge(map.fill_gaps(1, 12, 6) && !map.fill_gaps(3, 30, 5), "fill_gaps");
     judge(!map.fill_if_free(60, 70, 5) && map.fill_if_free(61, 62, 5) && map.fill_if_free(62, 61, 5), "fill_if_free");
-    judge_list(map, {{1, 9, 6}, {10, 19, 7}, {20, 29, 8}, {30, 31, 9}, {32, 60, 8}, {61, 62, 5}}, "what fill does");
-    judge(map.insert(30, 8) == 9 && !map.insert(-1, 3), "insert");
+    judge_list(map, {{1, 9, 6}, {10, 19, 7}, {20, 29, 8}, {30, 31, 9}, {32, 60, 8}, {61, 62, 5}}, "what fill_gaps does");
+    judge(map.insert_or_assign(30, 8) == 9 && !map.insert_or_assign(-1, 3), "insert_or_assign");
     judge(map.erase(31) == 9 && !map.erase(31), "erase of a key");
-    judge(map.erase(2, 8) && !map.erase(2, 8) && !map.erase(9, 1), "erase of a range");
+    judge(map.erase_range(2, 8) && !map.erase_range(2, 8) && !map.erase_range(9, 1), "erase_range");
     judge_list(map, {{-1, -1, 3}, {1, 1, 6}, {9, 9, 6}, {10, 19, 7}, {20, 30, 8}, {32, 60, 8}, {61, 62, 5}}, "what erase does");
     judge(map.first() == std::pair(-1, 3) && map.last() == std::pair(62, 5), "first and last");
     judge(map.pop_first() == std::pair(-1, 3) && map.pop_last() == std::pair(62, 5), "pop_first and pop_last");
@@ -38,14 +38,14 @@ static numbers example() { return {{1, 1, 6}, {9, 9, 6}, {10, 19, 7}, {20, 30, 8
 
 static void test_lookups() {
     const numbers map = example();
-    judge(map.size() == 6 && !map.empty() && map.count() == 53, "size, empty and count");
-    judge(map.find(61) == 5 && !map.find(62) && map.contains(61) && !map.contains(62), "find and contains");
+    judge(map.size() == 6 && map.max_size() >= 6 && !map.empty() && map.key_count() == 53, "size, empty and key_count");
+    judge(map.get(61) == 5 && !map.get(62) && map.contains(61) && !map.contains(62), "get and contains");
     judge(map.entry_at(15) == numbers::entry{10, 19, 7} && !map.entry_at(31), "entry_at");
     judge(map.next(31) == numbers::entry{32, 60, 8} && map.next(60)->first == 32 && !map.next(62), "next");
     judge(map.previous(31) == numbers::entry{20, 30, 8} && map.previous(20)->last == 30 && !map.previous(0), "previous");
     judge(map.any(2, 9) && !map.any(2, 8) && !map.any(9, 2), "any");
     judge(map.all(9, 30) && !map.all(9, 31) && map.all(31, 9), "all");
-    judge(map.count_within(5, 32) == 23 && map.count_within(32, 5) == 0, "count_within");
+    judge(map.key_count_within(5, 32) == 23 && map.key_count_within(32, 5) == 0, "key_count_within");
 }
 
 static void test_gaps() {
@@ -162,7 +162,7 @@ static void test_combine() {
     depth.combine(5, 24, 3, op::add, rangemap::place::all);
     depth.combine(9, 5, 3, op::add, rangemap::place::all);
     judge(list(depth) == decltype(list(depth)){{0, 4, 1}, {5, 9, 4}, {10, 19, 3}, {20, 24, 9}, {25, 29, 6}}, "combine, all keys");
-    depth.erase(10, 19);
+    depth.erase_range(10, 19);
     depth.combine(INT32_MIN, INT32_MAX, 5, op::bit_xor, rangemap::place::mapped);
     judge(list(depth) == decltype(list(depth)){{0, 4, 4}, {5, 9, 1}, {20, 24, 12}, {25, 29, 3}}, "combine, mapped keys");
     depth.combine(5, 29, 2, op::min, rangemap::place::mapped);
@@ -189,12 +189,12 @@ static void test_invalid_operations() {
 
 static void test_all_keys() {
     rangemap::map<std::uint64_t, id> places;
-    judge(places.paint(0, UINT64_MAX, id(4)) && places.count() == UINT64_MAX && places.size() == 1, "all 2^64 keys");
-    judge(places.count_within(0, UINT64_MAX) == UINT64_MAX && places.complement(id(1)).empty(), "all 2^64 keys, within");
-    judge(places.erase(0) == id(4) && places.count() == UINT64_MAX && places.gap_at(0) == std::pair(UINT64_C(0), UINT64_C(0)), "one less");
-    judge(places.first()->first == 1 && places.last()->first == UINT64_MAX && places.find(7)->number == 5, "a value of a class");
+    judge(places.paint(0, UINT64_MAX, id(4)) && places.key_count() == UINT64_MAX && places.size() == 1, "all 2^64 keys");
+    judge(places.key_count_within(0, UINT64_MAX) == UINT64_MAX && places.complement(id(1)).empty(), "all 2^64 keys, within");
+    judge(places.erase(0) == id(4) && places.key_count() == UINT64_MAX && places.gap_at(0) == std::pair(UINT64_C(0), UINT64_C(0)), "one less");
+    judge(places.first()->first == 1 && places.last()->first == UINT64_MAX && places.get(7)->number == 5, "a value of a class");
     rangemap::map<level, letter> levels;
-    judge(levels.complement(letter::a).entry_at(level::zero)->first == level::low && levels.complement(letter::a).count() == 256, "enums");
+    judge(levels.complement(letter::a).entry_at(level::zero)->first == level::low && levels.complement(letter::a).key_count() == 256, "enums");
 }
 
 void test_members() {

@@ -6,6 +6,7 @@
 
 #include <algorithm>
 #include <cstring>
+#include <limits>
 #include <map>
 #include <type_traits>
 
@@ -19,14 +20,23 @@ template <class Value> Value value_of(std::uint64_t number) {
     else return static_cast<Value>(number - 1);
 }
 
-inline std::uint64_t combined(std::uint64_t old, std::uint64_t value, rangemap::op by) {
+// What `combine` makes of two values. A sum that the type does not have wraps by the number of the type's values.
+template <class Value> Value combined(Value old, Value value, rangemap::op by) {
     switch (by) {
-    case rangemap::op::add: return old + value;
-    case rangemap::op::min: return std::min(old, value);
-    case rangemap::op::max: return std::max(old, value);
-    case rangemap::op::bit_and: return old & value;
-    case rangemap::op::bit_or: return old | value;
-    case rangemap::op::bit_xor: return old ^ value;
+    case rangemap::op::add:
+        if constexpr (std::is_unsigned_v<Value> || sizeof(Value) == 8) {
+            return static_cast<Value>(static_cast<std::uint64_t>(old) + static_cast<std::uint64_t>(value));
+        } else {
+            const std::int64_t sum = std::int64_t{old} + value, wrap = std::int64_t{1} << 8 * sizeof(Value);
+            return static_cast<Value>(sum > std::numeric_limits<Value>::max()   ? sum - wrap
+                                      : sum < std::numeric_limits<Value>::min() ? sum + wrap
+                                                                                : sum);
+        }
+    case rangemap::op::min: return value < old ? value : old;
+    case rangemap::op::max: return value > old ? value : old;
+    case rangemap::op::bit_and: return static_cast<Value>(old & value);
+    case rangemap::op::bit_or: return static_cast<Value>(old | value);
+    case rangemap::op::bit_xor: return static_cast<Value>(old ^ value);
     default: return old;
     }
 }

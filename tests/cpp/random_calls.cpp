@@ -2,6 +2,8 @@
 #include "model.hpp"
 
 #include <array>
+#include <functional>
+#include <list>
 #include <optional>
 
 namespace {
@@ -41,11 +43,13 @@ template <class Key, class Value> class random_test {
     void look_up(const range_map &map, const key_map &model) {
         const std::vector<entry> wanted = entries(model);
         judge(list(map) == wanted, "entries");
-        judge(map.size() == wanted.size() && map.empty() == wanted.empty() && map.count() == model.size(), "size, empty and count");
+        judge(map.size() == wanted.size() && map.empty() == wanted.empty() && map.key_count() == model.size(), "size, empty and key_count");
         judge(map.first().has_value() == !model.empty() && (model.empty() || *map.first() == std::pair<Key, Value>(*model.begin())), "first");
         judge(map.last().has_value() == !model.empty() && (model.empty() || *map.last() == std::pair<Key, Value>(*model.rbegin())), "last");
         const Key key = draw_key();
         look_up_key(map, model, wanted, key);
+        walk(map, wanted, key);
+        save_and_load(map);
         look_up_range(map, model);
         look_up_complement(map, model, key);
     }
@@ -53,7 +57,7 @@ template <class Key, class Value> class random_test {
     void look_up_key(const range_map &map, const key_map &model, const std::vector<entry> &wanted, Key key) {
         const auto found = model.find(key);
         const bool has = found != model.end();
-        judge(map.contains(key) == has && (has ? map.find(key) == found->second : !map.find(key)), "find and contains");
+        judge(map.contains(key) == has && (has ? map.get(key) == found->second : !map.get(key)), "get and contains");
         std::optional<entry> next, previous;
         for (const entry &at : wanted) {
             if (!next && at.last >= key) next = at;
@@ -65,6 +69,31 @@ template <class Key, class Value> class random_test {
             const Key start = previous ? after(previous->last, 1) : map.least_key;
             const Key end = next ? after(next->first, UINT64_MAX) : map.greatest_key;
             judge(map.gap_at(key) == std::pair(start, end), "gap_at");
+        }
+    }
+
+    template <class Range> static std::vector<entry> walked(const Range &range) { return {range.begin(), range.end()}; }
+
+    void walk(const range_map &map, const std::vector<entry> &wanted, Key key) {
+        const std::vector<entry> descending(wanted.rbegin(), wanted.rend());
+        judge(std::vector<entry>(map.rbegin(), map.rend()) == descending, "rbegin");
+        const auto is_below = [&](const entry &at) { return at.last < key; };
+        const auto is_above = [&](const entry &at) { return key < at.first; };
+        const auto from = std::find_if_not(wanted.begin(), wanted.end(), is_below);
+        const auto back_from = std::find_if_not(descending.begin(), descending.end(), is_above);
+        const std::vector<entry> upper(from, wanted.end()), lower(back_from, descending.end());
+        judge(walked(map.entries_from(key)) == upper, "entries_from");
+        judge(walked(map.entries_back_from(key)) == lower, "entries_back_from");
+        const bool has = from != wanted.end() && !is_above(*from);
+        judge(has ? std::vector<entry>(map.find(key), map.end()) == upper : map.find(key) == map.end(), "find");
+    }
+
+    void save_and_load(const range_map &map) {
+        if constexpr (rangemap::is_table_key<Key> && rangemap::is_table_value<Value>) {
+            std::vector<Key> first(map.size()), last(map.size());
+            std::vector<Value> value(map.size());
+            const auto table = map.to_table(first, last, value);
+            judge(table && range_map(*table) == map && walked(*table) == list(map), "to_table");
         }
     }
 
@@ -82,8 +111,8 @@ template <class Key, class Value> class random_test {
                 if (!gap) gap = last_gap;
             }
         });
-        judge(map.count_within(first, last) == count && map.any(first, last) == (count > 0) && map.all(first, last) == (free_count == 0),
-              "count_within, any and all");
+        judge(map.key_count_within(first, last) == count && map.any(first, last) == (count > 0) && map.all(first, last) == (free_count == 0),
+              "key_count_within, any and all");
         judge(map.find_gap(first, last, length) == gap && map.find_last_gap(first, last, length) == last_gap, "find_gap");
     }
 
@@ -92,12 +121,13 @@ template <class Key, class Value> class random_test {
         const std::uint64_t all = static_cast<std::uint64_t>(map.greatest_key) - static_cast<std::uint64_t>(map.least_key);
         const auto [first, last] = draw_range();
         judge(complement.contains(key) == !model.count(key) && !complement.any(first, last) == map.all(first, last), "complement");
-        judge(complement.count() == (model.empty() && all == UINT64_MAX ? all : all - model.size() + 1), "count of the complement");
+        judge(complement.key_count() == (model.empty() && all == UINT64_MAX ? all : all - model.size() + 1), "count of the complement");
     }
 
     void compare(const range_map &a, const range_map &b, const key_map &x, const key_map &y) {
         const auto one = pairs(x), other = pairs(y);
         judge((a == b) == (one == other) && (a != b) == (one != other), "== and !=");
+        judge((std::hash<range_map>()(a) == std::hash<range_map>()(b)) == (one == other), "the hash");
         judge(a.compare(b) == (one < other ? -1 : other < one ? 1 : 0) && (a < b) == (one < other) && (a >= b) == (one >= other), "compare");
     }
 
@@ -116,7 +146,7 @@ template <class Key, class Value> class random_test {
         const Value value = draw_value();
         const std::size_t size = model.size();
         each(first, last, [&](Key at) { model.emplace(at, value); });
-        judge(map.fill(first, last, value) == (model.size() > size), "fill");
+        judge(map.fill_gaps(first, last, value) == (model.size() > size), "fill_gaps");
     }
 
     void fill_if_free(range_map &map, key_map &model) {
@@ -132,8 +162,8 @@ template <class Key, class Value> class random_test {
         const Key key = draw_key();
         const Value value = draw_value();
         const auto found = model.find(key);
-        const auto replaced = map.insert(key, value);
-        judge(found == model.end() ? !replaced : replaced == found->second, "insert");
+        const auto replaced = map.insert_or_assign(key, value);
+        judge(found == model.end() ? !replaced : replaced == found->second, "insert_or_assign");
         model.insert_or_assign(key, value);
     }
 
@@ -149,7 +179,7 @@ template <class Key, class Value> class random_test {
         const auto [first, last] = draw_range();
         const std::size_t size = model.size();
         each(first, last, [&](Key at) { model.erase(at); });
-        judge(map.erase(first, last) == (model.size() < size), "erase of a range");
+        judge(map.erase_range(first, last) == (model.size() < size), "erase_range");
     }
 
     void pop(range_map &map, key_map &model, bool is_first) {
@@ -162,14 +192,17 @@ template <class Key, class Value> class random_test {
     }
 
     void paint_many(range_map &map, key_map &model) {
-        std::vector<entry> many;
+        std::list<entry> many;
         for (std::uint64_t i = draw(4); i > 0; i--) {
             const auto [start, end] = draw_range();
             const Value value = draw_value();
             many.push_back({start, end, value});
             each(start, end, [&](Key at) { model.insert_or_assign(at, value); });
         }
-        map.paint_many(many);
+        const std::uint64_t by = draw(3);
+        if (by == 0) map.paint_many(many);
+        if (by == 1) map.paint_many(many.begin(), many.end());
+        if (by == 2) map.paint_many(std::vector<entry>(many.begin(), many.end()).data(), many.size());
     }
 
     void split_off(std::size_t m, std::size_t n) {
@@ -198,17 +231,43 @@ template <class Key, class Value> class random_test {
         const auto where = static_cast<rangemap::place>(draw(2));
         each(first, last, [&](Key at) {
             const auto found = model.find(at);
-            if (found != model.end()) found->second = combined(found->second, value, by);
+            if (found != model.end()) found->second = combined<Value>(found->second, value, by);
             else if (where == rangemap::place::all) model.emplace(at, value);
         });
         map.combine(first, last, value, by, where);
     }
 
+    void erase_entries(range_map &map, key_map &model) {
+        const Value value = draw_value();
+        const auto is_erased = [&](const entry &at) { return (at.value == value) == (at.first != at.last); };
+        std::size_t count = 0;
+        for (const entry &at : entries(model)) {
+            if (!is_erased(at)) continue;
+            count++;
+            each(at.first, at.last, [&](Key key) { model.erase(key); });
+        }
+        judge(erase_if(map, is_erased) == count, "erase_if");
+    }
+
+    void unite_all(std::size_t m) {
+        key_map wanted = operated(unite, operated(unite, models[0], models[1]), models[2]);
+        maps[m] = rangemap::union_many(maps);
+        models[m] = std::move(wanted);
+    }
+
+    // Operands of an operator, each a map or a temporary.
     void operate(range_map &map, const range_map &a, const range_map &b, std::uint64_t by) {
-        if (by == unite) map = a | b;
-        if (by == intersect) map = a & b;
-        if (by == subtract) map = a - b;
-        if (by == exactly_one) map = a ^ b;
+        const std::uint64_t temporaries = draw(4);
+        const auto apply = [&](auto &&left, auto &&right) {
+            if (by == unite) map = std::forward<decltype(left)>(left) | std::forward<decltype(right)>(right);
+            if (by == intersect) map = std::forward<decltype(left)>(left) & std::forward<decltype(right)>(right);
+            if (by == subtract) map = std::forward<decltype(left)>(left) - std::forward<decltype(right)>(right);
+            if (by == exactly_one) map = std::forward<decltype(left)>(left) ^ std::forward<decltype(right)>(right);
+        };
+        if (temporaries == 0) apply(a, b);
+        if (temporaries == 1) apply(range_map(a), b);
+        if (temporaries == 2) apply(a, range_map(b));
+        if (temporaries == 3) apply(range_map(a), range_map(b));
     }
 
     void operate_in_place(range_map &map, const range_map &other, std::uint64_t by) {
@@ -219,7 +278,7 @@ template <class Key, class Value> class random_test {
     }
 
     void call(std::size_t m, std::size_t n, std::size_t o) {
-        const std::uint64_t choice = draw(20), by = draw(operations);
+        const std::uint64_t choice = draw(22), by = draw(operations);
         switch (choice) {
         case 0: return fill(maps[m], models[m]);
         case 1: return fill_if_free(maps[m], models[m]);
@@ -250,6 +309,8 @@ template <class Key, class Value> class random_test {
             models[m] = std::move(wanted);
             return;
         }
+        case 15: return erase_entries(maps[m], models[m]);
+        case 16: return unite_all(m);
         default: return paint(maps[m], models[m]);
         }
     }
@@ -267,7 +328,7 @@ template <class Key, class Value> class random_test {
         for (long i = 0; i < calls; i++) {
             const std::size_t m = draw(3), n = draw(3), o = draw(3);
             call(m, n, o);
-            if constexpr (std::is_same_v<Value, std::uint64_t>) {
+            if constexpr (std::is_integral_v<Value>) {
                 if (draw(10) == 0) combine_values(maps[m], models[m]);
             }
             look_up(maps[m], models[m]);
@@ -284,9 +345,10 @@ template <class Key, class Value> class random_test {
 } // namespace
 
 void test_random_calls(long calls) {
-    random_test<std::int64_t, std::uint64_t>("int64_t").run(calls / 5);
+    random_test<std::int64_t, std::uint64_t>("int64_t").run(calls / 10);
     random_test<std::uint8_t, letter>("uint8_t").run(calls / 5);
     random_test<std::uint64_t, std::int32_t>("uint64_t").run(calls / 5);
+    random_test<std::int32_t, std::int8_t>("int32_t").run(calls / 10);
     random_test<level, point>("enum of int8_t").run(calls / 10);
     random_test<place, const char *>("enum of uint64_t").run(calls / 5);
     random_test<std::int16_t, id>("int16_t").run(calls / 10);

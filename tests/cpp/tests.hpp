@@ -38,6 +38,10 @@ struct id {
 
 // The tests, each in a file of its own.
 void test_members();
+void test_iterators();
+void test_combine_of_each_type();
+void test_tables();
+void test_whole_maps();
 void test_random_calls(long calls);
 void test_failing_allocations();
 
