@@ -17,6 +17,24 @@ pub fn paint(map: &mut Map, lo: u64, hi: u64, value: u64) -> Result<bool, AllocE
     map.ranges_insert(lo..=hi, value)
 }
 
+/// Paints a range, and then one key. The second paint wins.
+pub fn paint_then_mark(
+    map: &mut Map,
+    lo: u64,
+    hi: u64,
+    value: u64,
+    key: u64,
+    mark: u64,
+) -> Result<(), AllocError>
+    ensures marked { OnOk result (at map.new.entries (pos key) ≡ Some mark) }
+    ensures painted { OnOk result ((k : ℕ) → lo ≤ k → k ≤ hi → (k < key) ⊎ (key < k)
+        → at map.new.entries (pos k) ≡ Some value) }
+{
+    let _ = paint(map, lo, hi, value)?;
+    let _ = paint(map, key, key, mark)?;
+    Ok(())
+}
+
 /// Removes every key from `lo` to `hi`. Every other key keeps its value.
 pub fn cut(map: &mut Map, lo: u64, hi: u64) -> Result<(), AllocError>
     ensures inside { OnOk result ((k : ℕ) → lo ≤ k → k ≤ hi → at map.new.entries (pos k) ≡ None) }

@@ -1,5 +1,5 @@
 //! Loops over a map and over a list of rules.
-ghost use Rattle.std.specs.Prelude.{◌≡◌, ◌<◌, ◌+◌, ℕ, ℤ, pos, nat_eq, Some, None, OnOk, IsTrue};
+ghost use Rattle.std.specs.Prelude.{◌≡◌, ◌<◌, ◌+◌, ℕ, ℤ, pos, nat_eq, Some, None, OnOk};
 ghost use Rattle.range_map_blaze.specs.Words.{ArePaintedInTurn, at, entry, IsPairPainted, keys_in, last_at, shown_list};
 
 use crate::Map;
@@ -19,13 +19,6 @@ pub fn sum_of_lengths(map: &RangeMapBlaze<u32, u64>) -> u64
         sum += u64::from(end - start) + 1;
     }
     sum
-}
-
-/// Returns whether the sum of the lengths is `len`: it is.
-pub fn sum_is_len(map: &RangeMapBlaze<u32, u64>) -> bool
-    ensures { IsTrue result }
-{
-    sum_of_lengths(map) == map.len()
 }
 
 // Paints one rule.
