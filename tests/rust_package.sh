@@ -57,6 +57,8 @@ printf '[package]\nname = "program"\nversion = "0.1.0"\nedition = "2021"\n[depen
 sed -n '/^```rust$/,/^```$/p' "$crate/README.md" | sed '1d; $d; s|^    Ok(())|    println!("{map}");\n&|' >"$work/program/src/main.rs"
 does "a program with the package" cargo build -q --manifest-path "$work/program/Cargo.toml"
 judge "(10..=19, 1), (20..=29, 2), (30..=49, 1)" "$("$work/target/debug/program" 2>&1)" "what it prints"
+sed -n '/^```rust crate$/,/^```$/{/^```/d; p}' "$top/docs/TASKS.md" >"$work/program/src/main.rs"
+does "the program of docs/TASKS.md" cargo run -q --manifest-path "$work/program/Cargo.toml"
 
 # ---- What the build script rejects
 check=(cargo check -q --manifest-path "$unpacked/Cargo.toml")

@@ -4,14 +4,14 @@ use crate::bounds::ends;
 use crate::ffi;
 use crate::out_of_memory::{checked, OutOfMemory};
 use crate::RangeMap;
-use std::ops::{RangeBounds, RangeInclusive};
+use std::ops::{Range, RangeBounds, RangeInclusive};
 
 /// The least number of ranges in a batch that is not the last one.
 const LEAST_BATCH: usize = 1024;
 
 /// Ranges to insert in one call of the library.
 #[derive(Default)]
-struct Batch {
+pub(crate) struct Batch {
     lo: Vec<i64>,
     hi: Vec<i64>,
     value: Vec<u64>,
@@ -19,7 +19,7 @@ struct Batch {
 
 impl Batch {
     /// Adds a range. A range that continues the last one with the same value extends it.
-    fn push(&mut self, lo: i64, hi: i64, value: u64) -> Result<(), OutOfMemory> {
+    pub(crate) fn push(&mut self, lo: i64, hi: i64, value: u64) -> Result<(), OutOfMemory> {
         if let (Some(last_hi), Some(last_value)) = (self.hi.last_mut(), self.value.last()) {
             if *last_value == value && last_hi.checked_add(1) == Some(lo) {
                 *last_hi = hi;
@@ -36,7 +36,7 @@ impl Batch {
     }
 
     /// Inserts the ranges into the map, in order, and empties the batch.
-    fn apply(&mut self, map: &mut RangeMap) -> Result<(), OutOfMemory> {
+    pub(crate) fn apply(&mut self, map: &mut RangeMap) -> Result<(), OutOfMemory> {
         let count = self.lo.len();
         if count == 0 {
             return Ok(());
@@ -98,65 +98,191 @@ impl RangeMap {
     }
 }
 
-/// As [`RangeMap::try_extend`], but calls [`handle_alloc_error`](std::alloc::handle_alloc_error) if
-/// an allocation fails.
-///
-/// ```
-/// # use range_map::RangeMap;
-/// let mut map = RangeMap::new();
-/// map.extend([(10..=49, 1), (20..=29, 2)]);
-/// assert_eq!(map.to_string(), "(10..=19, 1), (20..=29, 2), (30..=49, 1)");
-/// ```
-impl Extend<(RangeInclusive<i64>, u64)> for RangeMap {
-    fn extend<I: IntoIterator<Item = (RangeInclusive<i64>, u64)>>(&mut self, ranges: I) {
-        self.try_extend(ranges)
-            .unwrap_or_else(|error| error.abort());
-    }
+/// Implements the traits of std for many ranges, or for many keys.
+macro_rules! many {
+    (
+        $keys:ty,
+        as_range: $as_range:expr,
+        $(#[doc = $extend:literal])*
+        refs: $(#[doc = $refs:literal])*
+        pairs: $(#[doc = $pairs:literal])*
+        from_iter: $(#[doc = $from_iter:literal])*
+        from: $(#[doc = $from:literal])*
+    ) => {
+        /// Sets the values, in order, as [`RangeMap::try_extend`] does. Calls
+        /// [`handle_alloc_error`](std::alloc::handle_alloc_error) if an allocation fails.
+        ///
+        $(#[doc = $extend])*
+        impl Extend<($keys, u64)> for RangeMap {
+            fn extend<I: IntoIterator<Item = ($keys, u64)>>(&mut self, items: I) {
+                let as_range: fn($keys) -> _ = $as_range;
+                let items = items.into_iter().map(|(keys, value)| (as_range(keys), value));
+                self.try_extend(items).unwrap_or_else(|error| error.abort());
+            }
+        }
+
+        /// Sets the values, in order, as [`RangeMap::try_extend`] does. Calls
+        /// [`handle_alloc_error`](std::alloc::handle_alloc_error) if an allocation fails.
+        ///
+        $(#[doc = $refs])*
+        impl<'a> Extend<&'a ($keys, u64)> for RangeMap {
+            fn extend<I: IntoIterator<Item = &'a ($keys, u64)>>(&mut self, items: I) {
+                self.extend(items.into_iter().cloned());
+            }
+        }
+
+        /// Sets the values, in order, as [`RangeMap::try_extend`] does. Calls
+        /// [`handle_alloc_error`](std::alloc::handle_alloc_error) if an allocation fails.
+        ///
+        $(#[doc = $pairs])*
+        impl<'a> Extend<(&'a $keys, &'a u64)> for RangeMap {
+            fn extend<I: IntoIterator<Item = (&'a $keys, &'a u64)>>(&mut self, items: I) {
+                self.extend(items.into_iter().map(|(keys, value)| (keys.clone(), *value)));
+            }
+        }
+
+        /// A later value replaces an earlier one. Calls
+        /// [`handle_alloc_error`](std::alloc::handle_alloc_error) if an allocation fails. O(k log k) for
+        /// k items, or O(k) if they ascend.
+        ///
+        $(#[doc = $from_iter])*
+        impl FromIterator<($keys, u64)> for RangeMap {
+            fn from_iter<I: IntoIterator<Item = ($keys, u64)>>(items: I) -> Self {
+                let mut map = Self::new();
+                map.extend(items);
+                map
+            }
+        }
+
+        /// A later value replaces an earlier one. Calls
+        /// [`handle_alloc_error`](std::alloc::handle_alloc_error) if an allocation fails. O(N log N), or
+        /// O(N) if the items ascend.
+        ///
+        $(#[doc = $from])*
+        impl<const N: usize> From<[($keys, u64); N]> for RangeMap {
+            fn from(items: [($keys, u64); N]) -> Self {
+                items.into_iter().collect()
+            }
+        }
+    };
 }
 
-/// Sets the values of keys, in order, as [`RangeMap::try_extend`] does. Calls
-/// [`handle_alloc_error`](std::alloc::handle_alloc_error) if an allocation fails.
-///
-/// ```
-/// # use range_map::RangeMap;
-/// let mut map = RangeMap::new();
-/// map.extend([(10, 1), (11, 1), (12, 2)]);
-/// assert_eq!(map.to_string(), "(10..=11, 1), (12..=12, 2)");
-/// ```
-impl Extend<(i64, u64)> for RangeMap {
-    fn extend<I: IntoIterator<Item = (i64, u64)>>(&mut self, keys: I) {
-        self.extend(keys.into_iter().map(|(key, value)| (key..=key, value)));
-    }
-}
+many!(
+    RangeInclusive<i64>,
+    as_range: |range| range,
+    /// ```
+    /// # use range_map::RangeMap;
+    /// let mut map = RangeMap::new();
+    /// map.extend([(10..=49, 1), (20..=29, 2)]);
+    /// assert_eq!(map.to_string(), "(10..=19, 1), (20..=29, 2), (30..=49, 1)");
+    /// ```
+    refs:
+    /// ```
+    /// # use range_map::{Entry, RangeMap};
+    /// let entries: Vec<Entry> = vec![(10..=49, 1), (20..=29, 2)];
+    /// let mut map = RangeMap::new();
+    /// map.extend(&entries);
+    /// assert_eq!(map.to_string(), "(10..=19, 1), (20..=29, 2), (30..=49, 1)");
+    /// ```
+    pairs:
+    /// ```
+    /// # use range_map::RangeMap;
+    /// let values = [1, 2];
+    /// let mut map = RangeMap::new();
+    /// map.extend([10..=49, 20..=29].iter().zip(&values));
+    /// assert_eq!(map.to_string(), "(10..=19, 1), (20..=29, 2), (30..=49, 1)");
+    /// ```
+    from_iter:
+    /// ```
+    /// # use range_map::RangeMap;
+    /// let map = RangeMap::from_iter([(10..=49, 1), (20..=29, 2)]);
+    /// assert_eq!(map.to_string(), "(10..=19, 1), (20..=29, 2), (30..=49, 1)");
+    /// ```
+    from:
+    /// ```
+    /// # use range_map::RangeMap;
+    /// let map = RangeMap::from([(10..=49, 1), (20..=29, 2)]);
+    /// assert_eq!(map.to_string(), "(10..=19, 1), (20..=29, 2), (30..=49, 1)");
+    /// ```
+);
 
-/// Calls [`handle_alloc_error`](std::alloc::handle_alloc_error) if an allocation fails. O(k log k)
-/// for k ranges, or O(k) if they ascend.
-///
-/// ```
-/// # use range_map::RangeMap;
-/// let map = RangeMap::from_iter([(10..=49, 1), (20..=29, 2)]);
-/// assert_eq!(map.to_string(), "(10..=19, 1), (20..=29, 2), (30..=49, 1)");
-/// ```
-impl FromIterator<(RangeInclusive<i64>, u64)> for RangeMap {
-    fn from_iter<I: IntoIterator<Item = (RangeInclusive<i64>, u64)>>(ranges: I) -> Self {
-        let mut map = Self::new();
-        map.extend(ranges);
-        map
-    }
-}
+many!(
+    Range<i64>,
+    as_range: |range| range,
+    /// ```
+    /// # use range_map::RangeMap;
+    /// let mut map = RangeMap::new();
+    /// map.extend([(10..50, 1), (20..30, 2), (60..60, 3)]); // 60..60 has no key
+    /// assert_eq!(map.to_string(), "(10..=19, 1), (20..=29, 2), (30..=49, 1)");
+    /// ```
+    refs:
+    /// ```
+    /// # use range_map::RangeMap;
+    /// let ranges = vec![(10..50, 1), (20..30, 2)];
+    /// let mut map = RangeMap::new();
+    /// map.extend(&ranges);
+    /// assert_eq!(map.to_string(), "(10..=19, 1), (20..=29, 2), (30..=49, 1)");
+    /// ```
+    pairs:
+    /// The map of the crate `rangemap` iterates over such pairs.
+    ///
+    /// ```
+    /// # use range_map::RangeMap;
+    /// let values = [1, 2];
+    /// let mut map = RangeMap::new();
+    /// map.extend([10..50, 20..30].iter().zip(&values));
+    /// assert_eq!(map.to_string(), "(10..=19, 1), (20..=29, 2), (30..=49, 1)");
+    /// ```
+    from_iter:
+    /// ```
+    /// # use range_map::RangeMap;
+    /// let map: RangeMap = [(10..50, 1), (20..30, 2)].into_iter().collect();
+    /// assert_eq!(map.to_string(), "(10..=19, 1), (20..=29, 2), (30..=49, 1)");
+    /// ```
+    from:
+    /// ```
+    /// # use range_map::RangeMap;
+    /// let map = RangeMap::from([(10..50, 1), (20..30, 2)]);
+    /// assert_eq!(map.to_string(), "(10..=19, 1), (20..=29, 2), (30..=49, 1)");
+    /// ```
+);
 
-/// Calls [`handle_alloc_error`](std::alloc::handle_alloc_error) if an allocation fails. O(k log k)
-/// for k keys, or O(k) if they ascend.
-///
-/// ```
-/// # use range_map::RangeMap;
-/// let map: RangeMap = "aab".bytes().map(u64::from).zip(0..).map(|(v, k)| (k, v)).collect();
-/// assert_eq!(map.to_string(), "(0..=1, 97), (2..=2, 98)");
-/// ```
-impl FromIterator<(i64, u64)> for RangeMap {
-    fn from_iter<I: IntoIterator<Item = (i64, u64)>>(keys: I) -> Self {
-        let mut map = Self::new();
-        map.extend(keys);
-        map
-    }
-}
+many!(
+    i64,
+    as_range: |key| key..=key,
+    /// ```
+    /// # use range_map::RangeMap;
+    /// let mut map = RangeMap::new();
+    /// map.extend([(10, 1), (11, 1), (12, 2)]);
+    /// assert_eq!(map.to_string(), "(10..=11, 1), (12..=12, 2)");
+    /// ```
+    refs:
+    /// ```
+    /// # use range_map::RangeMap;
+    /// let pairs = vec![(10, 1), (11, 1), (12, 2)];
+    /// let mut map = RangeMap::new();
+    /// map.extend(&pairs);
+    /// assert_eq!(map.to_string(), "(10..=11, 1), (12..=12, 2)");
+    /// ```
+    pairs:
+    /// ```
+    /// # use range_map::RangeMap;
+    /// # use std::collections::BTreeMap;
+    /// let pairs = BTreeMap::from([(10, 1), (11, 1), (12, 2)]);
+    /// let mut map = RangeMap::new();
+    /// map.extend(&pairs);
+    /// assert_eq!(map.to_string(), "(10..=11, 1), (12..=12, 2)");
+    /// ```
+    from_iter:
+    /// ```
+    /// # use range_map::RangeMap;
+    /// let map: RangeMap = "aab".bytes().map(u64::from).zip(0..).map(|(v, k)| (k, v)).collect();
+    /// assert_eq!(map.to_string(), "(0..=1, 97), (2..=2, 98)");
+    /// ```
+    from:
+    /// ```
+    /// # use range_map::RangeMap;
+    /// let map = RangeMap::from([(10, 1), (11, 1), (12, 2)]);
+    /// assert_eq!(map.to_string(), "(10..=11, 1), (12..=12, 2)");
+    /// ```
+);

@@ -25,6 +25,15 @@ pub(crate) type Combine = unsafe extern "C" fn(*mut Raw, *mut Raw, *mut Raw) -> 
 /// Changes a map by another one.
 pub(crate) type Change = unsafe extern "C" fn(*mut Raw, *mut Raw) -> i32;
 
+/// Finds an entry of a map.
+pub(crate) type Find = unsafe extern "C" fn(
+    map: *mut Raw,
+    key: i64,
+    lo: *mut i64,
+    hi: *mut i64,
+    value: *mut u64,
+) -> bool;
+
 /// Writes entries into three arrays, from a key on, and returns how many.
 pub(crate) type Read = unsafe extern "C" fn(
     map: *mut Raw,

@@ -19,8 +19,30 @@
 //! proved to do what its contract says. The Rust code of this crate was tested, not proved.
 //!
 //! The methods have the names of `RangeMapBlaze` in the crate `range-set-blaze` where they do the
-//! same. Two things differ: a method that may allocate returns a [`Result`], and iteration over a
-//! map visits its entries, not its keys.
+//! same. Two things differ: a method that may allocate returns a [`Result`], and `iter`, `retain` and
+//! `range` visit entries, not keys:
+//!
+//! | each | all | within a range |
+//! |---|---|---|
+//! | entry | [`iter`](RangeMap::iter), [`range_values`](RangeMap::range_values) | whole: [`overlapping`](RangeMap::overlapping); cut off at its ends: [`range`](RangeMap::range) |
+//! | range of keys, whatever their values | [`ranges`](RangeMap::ranges) | |
+//! | range without a value | `gaps(..)` | [`gaps`](RangeMap::gaps) |
+//! | key | [`keys`](RangeMap::keys) | |
+//! | key and its value | [`key_values`](RangeMap::key_values) | |
+//! | value | of entries: [`values_by_range`](RangeMap::values_by_range); of keys: [`values_by_key`](RangeMap::values_by_key) | |
+//!
+//! These calls of other maps have another name here:
+//!
+//! | [`BTreeMap`](std::collections::BTreeMap) | `rangemap` | here |
+//! |---|---|---|
+//! | | `insert(range, value)` | [`ranges_insert`](RangeMap::ranges_insert) |
+//! | `entry(key).or_insert(value)` | | `ranges_insert_absent(key..=key, value)` |
+//! | | `remove(range)` | [`ranges_remove`](RangeMap::ranges_remove) |
+//! | `get_key_value` | `get_key_value` | [`range_at`](RangeMap::range_at) |
+//! | | `overlaps` | [`has_any`](RangeMap::has_any) |
+//! | `iter` | | [`key_values`](RangeMap::key_values) |
+//! | `values` | | [`values_by_key`](RangeMap::values_by_key) |
+//! | `len` of type `usize` | | [`len`](RangeMap::len) of type `u128` |
 //!
 //! # Entries
 //!
@@ -62,14 +84,18 @@
 //! | call | call that returns a `Result` |
 //! |---|---|
 //! | `clone` | [`RangeMap::try_clone`] |
-//! | `collect`, `from_iter`, `extend` | [`RangeMap::try_extend`] |
+//! | `collect`, `from_iter`, `from`, `extend` | [`RangeMap::try_extend`] |
 //! | <code>a \|= b</code> | [`RangeMap::extend_with`] |
 //! | `a &= b` | [`RangeMap::intersect_with`] |
 //! | `a -= b` | [`RangeMap::subtract`] |
 //! | `a ^= b` | `a = (&a ^ &b)?` |
 //!
+//! An iterator needs no memory. Each of its ends looks up two entries. Then it allocates one block of
+//! 768 bytes, to read up to 32 entries in one call of the library. If this allocation fails, it looks
+//! up each entry, which is slower: O(log n) for an entry.
+//!
 //! The library allocates with the `malloc` of C, so a `#[global_allocator]` does not see its
-//! requests.
+//! requests. It sees those for the blocks of iterators and the batches of `try_extend`.
 //!
 //! # Threads
 //!
@@ -117,10 +143,13 @@
 //!
 //! Do not call the library from a signal handler, or from a forked child of a process with threads.
 //!
-//! # No `Index`
+//! # No `Index`, no `!`
 //!
 //! [`Index`](std::ops::Index) returns a reference to the value, but the library returns a copy of
 //! it. Call [`RangeMap::get`] instead of writing `map[key]`.
+//!
+//! [`Not`](std::ops::Not) would be the map of the keys without a value, but a map needs a value for
+//! them. [`RangeMap::complement_with`] takes that value. [`RangeMap::gaps`] returns these keys alone.
 //!
 //! # Build
 //!
@@ -153,7 +182,10 @@ struct Readme;
 use std::ops::RangeInclusive;
 
 pub use combine::{Op, Place};
-pub use iter::{Gaps, IntoRangeValues, Overlapping, RangeValues, Ranges};
+pub use iter::{
+    Gaps, IntoRangeValues, KeyValues, Keys, Overlapping, Pieces, RangeValues, Ranges, ValuesByKey,
+    ValuesByRange,
+};
 pub use map::RangeMap;
 pub use out_of_memory::OutOfMemory;
 pub use table::{InvalidTable, Table, TableBuf};

@@ -1,8 +1,10 @@
-//! The map, and what makes it. `change`, `merge` and `look_up` have its other methods.
+//! The map, and what makes it. The modules `map::*` have its other methods.
 
 mod change;
 mod look_up;
 mod merge;
+mod relate;
+mod retain;
 
 use crate::ffi::{self, Raw};
 use crate::out_of_memory::{checked, OutOfMemory};

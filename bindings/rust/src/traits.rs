@@ -70,7 +70,8 @@ impl PartialOrd for RangeMap {
     }
 }
 
-/// Hashes the number of entries, and each entry. Does not allocate. O(n).
+/// Hashes the number of entries, and each entry. Needs no memory, as an [iterator](crate#memory).
+/// O(n).
 ///
 /// ```
 /// # use range_map::RangeMap;

@@ -26,6 +26,21 @@ impl RangeMap {
         }
     }
 
+    /// Returns an iterator over the entries, ascending, from both ends, as
+    /// [`RangeMap::range_values`] does. [`RangeMap::key_values`] visits each key.
+    ///
+    /// Creating the iterator is O(1). An entry is O(1), and O(log n) for each 32 entries.
+    ///
+    /// ```
+    /// # use range_map::RangeMap;
+    /// let map = RangeMap::from([(10..=19, 1), (20..=29, 2)]);
+    /// let longest = map.iter().max_by_key(|(range, _)| range.end() - range.start());
+    /// assert_eq!(longest, Some((20..=29, 2))); // of equal lengths, the last
+    /// ```
+    pub fn iter(&self) -> RangeValues<'_> {
+        self.range_values()
+    }
+
     /// Returns an iterator over the entries, ascending, from both ends, that owns the map.
     ///
     /// Creating the iterator is O(1). An entry is O(1), and O(log n) for each 32 entries.
@@ -45,6 +60,7 @@ impl RangeMap {
 
     /// Returns an iterator over the entries that share a key with the range, ascending, from both
     /// ends. The entries are whole: the first and the last may extend past the range.
+    /// [`RangeMap::range`] cuts them off at the ends of the range.
     ///
     /// Creating the iterator is O(1). An entry is O(1), and O(log n) for each 32 entries.
     ///
@@ -55,8 +71,12 @@ impl RangeMap {
     /// assert!(map.overlapping(..20).eq([(10..=19, 1)]));
     /// ```
     pub fn overlapping(&self, range: impl RangeBounds<i64>) -> Overlapping<'_> {
+        self.overlapping_keys(ends(range))
+    }
+
+    pub(super) fn overlapping_keys(&self, keys: Option<(i64, i64)>) -> Overlapping<'_> {
         Overlapping {
-            walk: Walk::new(ends(range)),
+            walk: Walk::new(keys),
             map: self,
         }
     }

@@ -68,12 +68,14 @@ pub struct Ranges<'a> {
 }
 
 impl Ranges<'_> {
+    #[inline]
     fn entry(&mut self) -> Option<(i64, i64)> {
         let front = self.front.take();
         let front = front.or_else(|| self.walk.next(self.map).map(|(lo, hi, _)| (lo, hi)));
         front.or_else(|| self.back.take())
     }
 
+    #[inline]
     fn entry_back(&mut self) -> Option<(i64, i64)> {
         let back = self.back.take();
         let back = back.or_else(|| self.walk.next_back(self.map).map(|(lo, hi, _)| (lo, hi)));
@@ -84,6 +86,7 @@ impl Ranges<'_> {
 impl Iterator for Ranges<'_> {
     type Item = RangeInclusive<i64>;
 
+    #[inline]
     fn next(&mut self) -> Option<RangeInclusive<i64>> {
         let (lo, mut hi) = self.entry()?;
         while let Some((next_lo, next_hi)) = self.entry() {
@@ -98,6 +101,7 @@ impl Iterator for Ranges<'_> {
 }
 
 impl DoubleEndedIterator for Ranges<'_> {
+    #[inline]
     fn next_back(&mut self) -> Option<RangeInclusive<i64>> {
         let (mut lo, hi) = self.entry_back()?;
         while let Some((next_lo, next_hi)) = self.entry_back() {
@@ -141,6 +145,7 @@ pub struct Gaps<'a> {
 impl Iterator for Gaps<'_> {
     type Item = RangeInclusive<i64>;
 
+    #[inline]
     fn next(&mut self) -> Option<RangeInclusive<i64>> {
         while let Some((from, to)) = self.keys.take() {
             let (lo, hi, _) = match self.walk.next(self.map) {
@@ -159,6 +164,7 @@ impl Iterator for Gaps<'_> {
 }
 
 impl DoubleEndedIterator for Gaps<'_> {
+    #[inline]
     fn next_back(&mut self) -> Option<RangeInclusive<i64>> {
         while let Some((from, to)) = self.keys.take() {
             let (lo, hi, _) = match self.walk.next_back(self.map) {

@@ -108,6 +108,7 @@ impl RangeMap {
     /// assert_eq!(map.range_at(20), Some((10..=49, 1)));
     /// assert_eq!(map.range_at(50), None);
     /// ```
+    #[doc(alias = "get_key_value")]
     #[must_use]
     pub fn range_at(&self, key: i64) -> Option<Entry> {
         let (range, value) = self.range_or_gap_at(key);
@@ -217,11 +218,12 @@ impl RangeMap {
     /// ```
     /// # use range_map::RangeMap;
     /// let map = RangeMap::from_iter([(10..=49, 1)]);
-    /// assert!(map.any(0..=10));
-    /// assert!(!map.any(0..10));
+    /// assert!(map.has_any(0..=10));
+    /// assert!(!map.has_any(0..10));
     /// ```
+    #[doc(alias = "overlaps")]
     #[must_use]
-    pub fn any(&self, range: impl RangeBounds<i64>) -> bool {
+    pub fn has_any(&self, range: impl RangeBounds<i64>) -> bool {
         match ends(range) {
             // SAFETY: the pointer is valid.
             Some((lo, hi)) => unsafe { ffi::range_map_any_unchecked(&mut self.handle(), lo, hi) },
@@ -235,11 +237,11 @@ impl RangeMap {
     /// ```
     /// # use range_map::RangeMap;
     /// let map = RangeMap::from_iter([(10..=49, 1)]);
-    /// assert!(map.all(10..50));
-    /// assert!(!map.all(10..=50));
+    /// assert!(map.has_all(10..50));
+    /// assert!(!map.has_all(10..=50));
     /// ```
     #[must_use]
-    pub fn all(&self, range: impl RangeBounds<i64>) -> bool {
+    pub fn has_all(&self, range: impl RangeBounds<i64>) -> bool {
         match ends(range) {
             // SAFETY: the pointer is valid.
             Some((lo, hi)) => unsafe { ffi::range_map_all_unchecked(&mut self.handle(), lo, hi) },

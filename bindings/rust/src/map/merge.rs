@@ -1,4 +1,4 @@
-//! Changes of a map by another map, and maps of two.
+//! Changes of a map by another map, and maps of several.
 
 use super::RangeMap;
 use crate::ffi;
@@ -87,6 +87,40 @@ impl RangeMap {
     /// ```
     pub fn subtract(&mut self, other: &Self) -> Result<(), OutOfMemory> {
         self.change_by(other, ffi::range_map_subtract_unchecked)
+    }
+
+    /// Returns the union of maps. A key that has a value in several maps gets that of the last of them.
+    ///
+    /// Returns the empty map if there are no maps. May allocate. O(s log k) for k maps with s entries in
+    /// all.
+    ///
+    /// ```
+    /// # use range_map::{OutOfMemory, RangeMap};
+    /// # fn main() -> Result<(), OutOfMemory> {
+    /// let maps = [RangeMap::from([(0..=9, 1)]), RangeMap::from([(5..=6, 2), (8..=20, 3)])];
+    /// assert_eq!(RangeMap::union_of(&maps)?.to_string(), "(0..=4, 1), (5..=6, 2), (7..=7, 1), (8..=20, 3)");
+    /// # Ok(())
+    /// # }
+    /// ```
+    pub fn union_of<'a>(maps: impl IntoIterator<Item = &'a RangeMap>) -> Result<Self, OutOfMemory> {
+        let mut list = Vec::new();
+        for map in maps {
+            list.try_reserve(1).map_err(|_| OutOfMemory)?;
+            list.push(map);
+        }
+        Self::union_of_list(&list)
+    }
+
+    fn union_of_list(maps: &[&RangeMap]) -> Result<Self, OutOfMemory> {
+        match maps {
+            [] => Ok(Self::new()),
+            [map] => map.try_clone(),
+            [left, right] => *left | *right,
+            _ => {
+                let (lower, upper) = maps.split_at(maps.len() / 2);
+                Self::union_of_list(lower)? | Self::union_of_list(upper)?
+            }
+        }
     }
 
     fn change_by(&mut self, other: &Self, change: ffi::Change) -> Result<(), OutOfMemory> {

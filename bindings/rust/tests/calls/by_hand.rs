@@ -42,8 +42,8 @@ fn results_by_hand() -> Result<(), Box<dyn std::error::Error>> {
     assert_eq!(map.range_at_or_below(55), Some((50..=54, 3)));
     assert_eq!(map.first_key_value(), Some((11, 1)));
     assert_eq!(map.last_key_value(), Some((56, 4)));
-    assert!(map.any(12..14) && !map.any(12..13));
-    assert!(map.all(13..55) && !map.all(13..=55));
+    assert!(map.has_any(12..14) && !map.has_any(12..13));
+    assert!(map.has_all(13..55) && !map.has_all(13..=55));
     assert_eq!(map.find_gap(11..=60, 1), Some(12));
     assert_eq!(map.find_gap(11..=60, 2), Some(57));
     assert_eq!(map.find_last_gap(11..=60, 2), Some(59));
@@ -63,6 +63,43 @@ fn results_by_hand() -> Result<(), Box<dyn std::error::Error>> {
         Some((50..=54, 3))
     );
     assert!(map.ranges().eq([11..=11, 13..=54, 56..=56]));
+    assert_eq!(map.iter().next_back(), Some((56..=56, 4)));
+    assert!(map
+        .range(12..31)
+        .rev()
+        .eq([(30..=30, 1), (21..=29, 2), (20..=20, 5), (13..=19, 1)]));
+    assert_eq!(map.range(54..=55).collect::<Vec<_>>(), [(54..=54, 3)]);
+    assert_eq!(
+        format!("{:?}", map.range(..=13)),
+        "[(11..=11, 1), (13..=13, 1)]"
+    );
+    assert_eq!(map.keys().nth(1), Some(13));
+    assert_eq!((map.keys().count(), map.keys().min()), (44, Some(11)));
+    assert_eq!(map.key_values().nth_back(2), Some((53, 3)));
+    assert!(map.values_by_range().eq([1, 1, 5, 2, 1, 3, 4]));
+    assert!(map.values_by_key().rev().take(7).eq([4, 3, 3, 3, 3, 3, 1]));
+    let mut keys = map.keys();
+    assert_eq!((keys.nth(10), keys.nth_back(31)), (Some(22), Some(24)));
+    assert_eq!(keys.size_hint(), (1, Some(1)));
+    assert_eq!(format!("{keys:?}"), "Keys([(23..=23, 2)])");
+    assert_eq!(keys.next().zip(keys.next()), None);
+    let mut some = map.try_clone()?;
+    some.retain(|range, value| value != 1 && range.start() == range.end())?;
+    assert_eq!(some.to_string(), "(20..=20, 5), (56..=56, 4)");
+    assert!(map.covers(&some) && !some.covers(&map) && !map.is_disjoint(&some));
+    some.retain(|_, _| true)?;
+    assert_eq!(some.ranges_len(), 2);
+    some.retain(|_, _| false)?;
+    assert!(some.is_empty() && map.covers(&some) && map.is_disjoint(&some));
+    let maps = [
+        RangeMap::from([(1..9, 1)]),
+        RangeMap::from([(3..=4, 2)]),
+        RangeMap::from([(4, 3)]),
+    ];
+    let text = "(1..=2, 1), (3..=3, 2), (4..=4, 3), (5..=8, 1)";
+    assert_eq!(RangeMap::union_of(&maps)?.to_string(), text);
+    assert_eq!(RangeMap::union_of([&map, &map])?, map);
+    assert!(RangeMap::union_of([])?.is_empty());
     assert!(map.gaps(..20).rev().eq([12..=12, i64::MIN..=10]));
     assert_eq!(format!("{:?}", map.gaps(50..=56)), "[55..=55]");
     assert_eq!(format!("{:?}", map.ranges()), "[11..=11, 13..=54, 56..=56]");
@@ -131,8 +168,15 @@ fn results_by_hand() -> Result<(), Box<dyn std::error::Error>> {
 
     let whole = RangeMap::from_iter([(i64::MIN..=i64::MAX, 1)]);
     assert_eq!((whole.len(), whole.len_within(..)), (1 << 64, 1 << 64));
-    assert!(whole.gaps(..).next().is_none() && whole.all(..) && whole.ranges().count() == 1);
+    assert!(whole.gaps(..).next().is_none() && whole.has_all(..) && whole.ranges().count() == 1);
     assert_eq!(whole.to_table()?.as_table().len_within(..), 1 << 64);
+    let mut keys = whole.keys();
+    assert_eq!(keys.size_hint(), (usize::MAX, None));
+    assert_eq!(keys.nth(usize::MAX), Some(i64::MAX));
+    assert_eq!((keys.next(), keys.size_hint()), (None, (0, Some(0))));
+    assert_eq!(whole.keys().nth_back(usize::MAX), Some(i64::MIN));
+    assert_eq!(whole.keys().nth(usize::MAX / 2 + 1), Some(0));
+    assert!(whole.covers(&a) && !a.covers(&whole) && !whole.is_disjoint(&a));
     assert!(whole.complement_with(2)?.is_empty());
     map.clear();
     assert!(map.gaps(..).eq([i64::MIN..=i64::MAX]));
@@ -214,11 +258,12 @@ fn ranges_without_a_key() -> Outcome {
             map.try_extend([(range, 2), (range, 3)])?;
             assert_eq!(map, before);
             assert_eq!(map.len_within(range), 0);
-            assert!(!map.any(range) && map.all(range));
+            assert!(!map.has_any(range) && map.has_all(range));
             assert_eq!(map.find_gap(range, 1), None);
             assert_eq!(map.find_last_gap(range, 1), None);
             assert_eq!(map.overlapping(range).count(), 0);
             assert_eq!(map.overlapping(range).rev().count(), 0);
+            assert_eq!(map.range(range).count() + map.range(range).rev().count(), 0);
             assert_eq!(map.gaps(range).count(), 0);
             assert_eq!(map.gaps(range).rev().count(), 0);
             assert_eq!(map.to_table()?.as_table().len_within(range), 0);

@@ -26,6 +26,37 @@ pub fn check_ends<T: PartialEq + std::fmt::Debug>(
     assert!(iter.next().is_none() && iter.next_back().is_none() && iter.next().is_none());
 }
 
+/// Compares the iterators over entries, keys and values.
+fn check_keys(choice: &mut Choice, map: &RangeMap, plain: &Plain, entries: &[Entry]) {
+    let pairs = || plain.iter().map(|(&key, &value)| (key, value));
+    check_ends(choice, map.iter(), entries.iter().cloned());
+    check_ends(choice, map.key_values(), pairs());
+    check_ends(choice, map.keys(), plain.keys().copied());
+    check_ends(choice, map.values_by_key(), plain.values().copied());
+    let values = entries.iter().map(|entry| entry.1);
+    check_ends(choice, map.values_by_range(), values.clone());
+    assert_eq!(map.values_by_range().len(), values.len());
+    // `nth` passes whole entries.
+    let mut keys = map.key_values();
+    let mut expected: VecDeque<(i64, u64)> = pairs().collect();
+    loop {
+        assert_eq!(keys.size_hint(), (expected.len(), Some(expected.len())));
+        let n = choice.below(6) as usize;
+        let (key, other) = if choice.below(2) == 0 {
+            expected.drain(..n.min(expected.len()));
+            (keys.nth(n), expected.pop_front())
+        } else {
+            expected.truncate(expected.len() - n.min(expected.len()));
+            (keys.nth_back(n), expected.pop_back())
+        };
+        assert_eq!(key, other);
+        if key.is_none() {
+            break;
+        }
+    }
+    assert_eq!(keys.size_hint(), (0, Some(0)));
+}
+
 /// Compares all lookups of keys near `lo` to `hi`.
 pub fn check(choice: &mut Choice, map: &RangeMap, plain: &Plain, lo: i64, hi: i64) -> Outcome {
     let entries = entries_of(plain);
@@ -41,17 +72,20 @@ pub fn check(choice: &mut Choice, map: &RangeMap, plain: &Plain, lo: i64, hi: i6
     assert_eq!(map.contains_key(hi), has(hi));
     let is_shared = |entry: &&Entry| *entry.0.start() <= hi && lo <= *entry.0.end();
     let shared: Vec<Entry> = entries.iter().filter(is_shared).cloned().collect();
-    check_ends(choice, map.overlapping(lo..=hi), shared);
+    check_ends(choice, map.overlapping(lo..=hi), shared.iter().cloned());
     check_ends(choice, map.gaps(lo..=hi), runs(lo..=hi, |key| !has(key)));
     let all_keys: Vec<_> = entries.iter().map(|(range, _)| range.clone()).collect();
     let ends = all_keys.first().zip(all_keys.last());
     let window = ends.map_or(0..=0, |(first, last)| *first.start()..=*last.end());
     check_ends(choice, map.ranges(), runs(window, has));
+    check_keys(choice, map, plain, &entries);
+    let cut = |(range, value): &Entry| ((*range.start()).max(lo)..=(*range.end()).min(hi), *value);
+    check_ends(choice, map.range(lo..=hi), shared.iter().map(cut));
 
     let within = plain.range(lo..=hi).count();
     assert_eq!(map.len_within(lo..=hi), within as u128);
-    assert_eq!(map.any(lo..=hi), within != 0);
-    assert_eq!(map.all(lo..=hi), within as i64 == hi - lo + 1);
+    assert_eq!(map.has_any(lo..=hi), within != 0);
+    assert_eq!(map.has_all(lo..=hi), within as i64 == hi - lo + 1);
     let length = choice.below(6);
     let mut starts = (lo..=hi).filter(|&start| {
         length > 0

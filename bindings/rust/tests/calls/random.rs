@@ -3,6 +3,7 @@
 use crate::check::{check, check_ends};
 use crate::plain::{entries_of, filtered, runs, Choice, Outcome, Plain, KEYS};
 use range_map::{Entry, Op, Place, RangeMap};
+use std::ops::RangeInclusive;
 
 const OPS: [Op; 7] = [
     Op::Add,
@@ -38,7 +39,7 @@ fn round(choice: &mut Choice) -> Outcome {
         let (one, two) = (base + choice.below(KEYS), base + choice.below(KEYS));
         let (lo, hi, value) = (one.min(two), one.max(two), choice.below(4) as u64);
         let size = plain.len();
-        match choice.below(26) {
+        match choice.below(29) {
             0..=2 => {
                 plain.extend((lo..=hi).map(|key| (key, value)));
                 assert_eq!(map.ranges_insert(lo..=hi, value)?, plain.len() != size);
@@ -79,22 +80,43 @@ fn round(choice: &mut Choice) -> Outcome {
                 let last = last.and_then(|key| plain.remove_entry(&key));
                 assert_eq!(map.pop_last()?, last);
             }
+            11 if choice.below(2) == 0 => {
+                let ranges = [(lo..hi, value), (one..two, value + 1), (lo..lo + 1, value)];
+                for (range, value) in &ranges {
+                    plain.extend(range.clone().map(|key| (key, *value)));
+                }
+                let (keys, values): (Vec<_>, Vec<_>) = ranges.iter().cloned().unzip();
+                match choice.below(5) {
+                    0 => map.extend(ranges),
+                    1 => map.extend(&ranges),
+                    2 => map.extend(keys.iter().zip(&values)),
+                    3 => map.extend_with(&RangeMap::from(ranges))?,
+                    _ => map.extend_with(&ranges.into_iter().collect())?,
+                }
+            }
             11 => {
                 let ranges = [(lo..=hi, value), (one..=two, value + 1), (lo..=lo, value)];
                 for (range, value) in &ranges {
                     plain.extend(range.clone().map(|key| (key, *value)));
                 }
-                match choice.below(3) {
+                let (keys, values): (Vec<_>, Vec<_>) = ranges.iter().cloned().unzip();
+                match choice.below(6) {
                     0 => map.extend(ranges),
                     1 => map.try_extend(ranges)?,
+                    2 => map.extend(&ranges),
+                    3 => map.extend(keys.iter().zip(&values)),
+                    4 => map |= RangeMap::from(ranges),
                     _ => map |= RangeMap::from_iter(ranges),
                 }
             }
             12 => {
                 let keys = [(one, value), (two, value + 1), (lo, value)];
                 plain.extend(keys);
-                match choice.below(2) {
+                match choice.below(5) {
                     0 => map.extend(keys),
+                    1 => map.extend(&keys),
+                    2 => map.extend(&Plain::from(keys)),
+                    3 => map.extend_with(&RangeMap::from(keys))?,
                     _ => map.extend_with(&keys.into_iter().collect())?,
                 }
             }
@@ -199,11 +221,55 @@ fn round(choice: &mut Choice) -> Outcome {
                 }
                 map.combine(lo..=hi, value, op, place)?;
             }
-            _ => {
+            25 => {
                 map.clear();
                 plain.clear();
             }
+            26 => {
+                let entries = entries_of(&plain);
+                let is_kept = |range: &RangeInclusive<i64>, other: u64| {
+                    other != value && !range.contains(&lo)
+                };
+                let mut called = Vec::new();
+                map.retain(|range, other| {
+                    called.push((range.clone(), other));
+                    is_kept(&range, other)
+                })?;
+                assert_eq!(called, entries);
+                let kept = entries
+                    .into_iter()
+                    .filter(|(range, other)| is_kept(range, *other));
+                plain = kept
+                    .flat_map(|(range, other)| range.map(move |key| (key, other)))
+                    .collect();
+            }
+            27 => {
+                let third = RangeMap::from([(lo..=hi, value)]);
+                let third_plain: Plain = (lo..=hi).map(|key| (key, value)).collect();
+                let maps = [&map, &other, &third];
+                let plains = [&plain, &other_plain, &third_plain];
+                let chosen: Vec<usize> = (0..choice.below(8))
+                    .map(|_| choice.below(3) as usize)
+                    .collect();
+                let mut union = Plain::new();
+                for &at in &chosen {
+                    union.extend(plains[at]);
+                }
+                let united = RangeMap::union_of(chosen.iter().map(|&at| maps[at]))?;
+                assert_eq!(collected(united), entries_of(&union));
+            }
+            _ => {
+                let keys = choice.below(KEYS);
+                let part: Plain = filtered(&plain, |key| key - base < keys);
+                other = part.clone().into_iter().collect();
+                other_plain = part;
+                assert!(map.covers(&other));
+            }
         }
+        let is_free = |key: &i64| !plain.contains_key(key);
+        assert_eq!(map.is_disjoint(&other), other_plain.keys().all(is_free));
+        assert_eq!(map.covers(&other), !other_plain.keys().any(is_free));
+        assert!(map.covers(&map) && map.is_disjoint(&map) == map.is_empty());
         check(choice, &map, &plain, lo, hi)?;
     }
     let entries: Vec<String> = entries_of(&plain)
@@ -222,6 +288,45 @@ fn random_calls() -> Outcome {
         round(&mut choice)?;
     }
     Ok(())
+}
+
+/// Pairs of maps of which one has many more entries, and pairs with about as many.
+#[test]
+fn keys_of_two_maps() {
+    let mut choice = Choice(11);
+    let (mut covered, mut free) = (0, 0);
+    for _ in 0..1500 {
+        let counts = [0, 1, 2, 20, 60].map(|most| choice.below(most + 1));
+        let mut pairs = counts.map(|count| {
+            let first = choice.below(300);
+            (0..count)
+                .map(|_| (first + choice.below(3 * count), choice.below(3) as u64))
+                .collect::<Plain>()
+        });
+        if choice.below(4) != 0 {
+            let larger = pairs[4].clone();
+            let is_in = choice.below(3) != 0;
+            pairs[..4]
+                .iter_mut()
+                .for_each(|pairs| pairs.retain(|key, _| larger.contains_key(key) == is_in));
+        }
+        if choice.below(3) == 0 {
+            pairs[3].insert(choice.below(500), 0);
+        }
+        let maps = pairs.clone().map(RangeMap::from_iter);
+        for (map, plain) in maps.iter().zip(&pairs) {
+            for (other, other_plain) in maps.iter().zip(&pairs) {
+                let has = |key: &i64| plain.contains_key(key);
+                let (is_free, is_covered) =
+                    (!other_plain.keys().any(has), other_plain.keys().all(has));
+                assert_eq!(map.is_disjoint(other), is_free, "{map} and {other}");
+                assert_eq!(map.covers(other), is_covered, "{map} and {other}");
+                free += usize::from(is_free && !map.is_empty() && !other.is_empty());
+                covered += usize::from(is_covered && plain != other_plain && !other.is_empty());
+            }
+        }
+    }
+    assert!(covered > 200 && free > 1000, "{covered} {free}");
 }
 
 /// Iterations longer than one read, and batches longer than one call.

@@ -2,8 +2,8 @@
 
 use crate::plain::{entries_of, Choice, Plain};
 use range_map::{
-    Gaps, IntoRangeValues, InvalidTable, Op, OutOfMemory, Overlapping, Place, RangeMap,
-    RangeValues, Ranges, Table, TableBuf,
+    Gaps, IntoRangeValues, InvalidTable, KeyValues, Keys, Op, OutOfMemory, Overlapping, Pieces,
+    Place, RangeMap, RangeValues, Ranges, Table, TableBuf, ValuesByKey, ValuesByRange,
 };
 use std::sync::{Arc, Mutex};
 use std::thread;
@@ -25,7 +25,7 @@ fn threads_share_a_map() {
                     assert_eq!(map.get(key), plain.get(&key).copied());
                     let (range, value) = map.range_or_gap_at(key);
                     assert!(range.contains(&key) && value == map.get(key));
-                    assert_eq!(map.any(key..=key), value.is_some());
+                    assert_eq!(map.has_any(key..=key), value.is_some());
                 }
                 assert!(map.into_iter().eq(entries.iter().cloned()));
                 assert!(map.range_values().rev().eq(entries.iter().rev().cloned()));
@@ -51,6 +51,11 @@ fn all_types_are_send_and_sync() {
     check::<Overlapping<'static>>();
     check::<Ranges<'static>>();
     check::<Gaps<'static>>();
+    check::<Pieces<'static>>();
+    check::<Keys<'static>>();
+    check::<KeyValues<'static>>();
+    check::<ValuesByKey<'static>>();
+    check::<ValuesByRange<'static>>();
     check::<Table<'static>>();
     check::<TableBuf>();
     check::<OutOfMemory>();
