@@ -36,7 +36,7 @@ template <class Key, class Value> std::string text(const rangemap::table<Key, Va
 template <class Item> std::string text(const std::optional<Item> &item) { return item ? text(*item) : "nothing"; }
 END
 lines() {
-    sed -n '/^## In C++$/,/^## Traps$/{/^| [^|]/{s/\\|/\x01/g; s/^|[^|]*|//p}}' docs/TASKS.md | grep -o '`[^`]*`' | tr -d '`' | tr '\001' '|'
+    sed -n '/^## In C++$/,/^## In Python$/{/^| [^|]/{s/\\|/\x01/g; s/^|[^|]*|//p}}' docs/TASKS.md | grep -o '`[^`]*`' | tr -d '`' | tr '\001' '|'
 }
 number=0
 while IFS= read -r line; do
