@@ -204,7 +204,7 @@ mkdir "$work/other"
 run "a copy of the library" 0 '' "$work/tree/tools/vendor" "$work/other"
 tells "a copy of the library" "the 6 crates"
 sed -n '/^    /{s///; s/ *# .*//; s/NAME/first_map/g; p}' "$work/told" >"$work/next"
-judge "rt new crates/first_map start_io && rm crates/first_map/BUILD.bazel
+judge "rt new crates/first_map start_io
 echo 'first_map: range_map_blaze' >>crates.txt
 cd crates/first_map
 rt try <stdin
